@@ -1,0 +1,22 @@
+-- `names::eid::in_use` meets its contract: the array of the constants and the list of the specification compute to the same numbers.
+-- Assumes nothing.
+use mathlib.Core.Path.{refl, sym}
+use lib.ListN.{List·getD-eq-default}
+use borrow.Author.Needs.{needs}
+use Rattle.names.specs.Ids.{elementsInUse}
+use Rattle.names.proofs.eid.in_use.Statement.{statement}
+use Rattle.names.proofs.eid.in_use.Tie as tie
+
+array-read-result : tie.Need-array-read-result
+array-read-result c = search needs
+
+returns : tie.Need-returns
+unfolding elementsInUse
+returns c = refl
+
+returns-2 : tie.Need-returns-2
+unfolding elementsInUse
+returns-2 c = sym (List·getD-eq-default elementsInUse 0 {n = c .before .args .i} (search needs))
+
+pub in-use-spec : {M : Type 1} → statement M
+in-use-spec = tie.close (tie.spec array-read-result returns returns-2)
