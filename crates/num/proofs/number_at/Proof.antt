@@ -1,0 +1,34 @@
+-- `num::number_at` meets its contract: within the count it is the number 4 * i bytes on; past it, 0. Assumes nothing.
+use mathlib.Core.Path.{ap, sym, _∙_}
+use denote.Ref.{now}
+use Rattle.num.specs.Narrowed.{plusZero, singleOf}
+use Rattle.num.proofs.Lists.{numbers-at, numbers-past}
+use borrow.Author.Needs.{needs}
+use Rattle.num.proofs.number_at.Statement.{statement}
+use Rattle.num.proofs.number_at.Tie as tie
+
+cast-get32 : tie.Need-cast-get32
+cast-get32 c = search needs
+
+mul-get32 : tie.Need-mul-get32
+mul-get32 c = search needs
+
+add-get32 : tie.Need-add-get32
+add-get32 c = search needs
+
+get32-requires : tie.Need-get32-requires
+get32-requires c κs = search needs
+
+single-requires : tie.Need-single-requires
+single-requires c κs = search needs
+
+returns : tie.Need-returns
+returns c = c .single .ensures ∙ ap singleOf (c .before .get32 .ensures) ∙ sym (numbers-at (now (c .before .before .before .before .before .before .args .s)) (c .before .before .before .before .before .before .args .ns .at) (c .before .before .before .before .before .before .args .ns .count) (c .before .before .before .before .before .before .args .i) plusZero (c .before .before .before .if1 .taken))
+
+returns-2 : tie.Need-returns-2
+returns-2 c = sym (numbers-past (now (c .before .before .before .args .s)) (c .before .before .before .args .ns .at) (c .before .before .before .args .ns .count) (c .before .before .before .args .i) plusZero (c .if1 .left))
+
+pub number-at-spec : {M : Type 1} → statement M
+number-at-spec =
+    tie.close
+    (tie.spec cast-get32 mul-get32 add-get32 get32-requires single-requires returns returns-2)

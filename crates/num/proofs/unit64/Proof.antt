@@ -1,0 +1,15 @@
+-- `num::unit64` meets its contract: 2 ^ d is below 2 ^ 64, so the shift drops nothing. Assumes nothing.
+use native.Mathlib.Nat.{one-mul, mod-eq-of-lt}
+use lib.Pow.{pow-lt}
+use borrow.Author.Needs.{needs}
+use Rattle.num.proofs.unit64.Statement.{statement}
+use Rattle.num.proofs.unit64.Tie as tie
+
+shl-result : tie.Need-shl-result
+shl-result c = search needs
+
+returns : tie.Need-returns
+returns c = rw one-mul (mod-eq-of-lt (pow-lt (c .pre)))
+
+pub unit64-spec : {M : Type 1} → statement M
+unit64-spec = tie.close (tie.spec shl-result returns)

@@ -1,0 +1,4 @@
+pub mod Narrowed
+pub mod Whole
+pub mod Sign
+pub mod Lists
