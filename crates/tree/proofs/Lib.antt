@@ -1,0 +1,5 @@
+pub mod Runs
+pub mod Lengths
+pub mod Inputs
+pub mod Pairs
+pub mod Signed

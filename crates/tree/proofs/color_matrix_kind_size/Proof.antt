@@ -1,0 +1,78 @@
+-- By cases, the size is the length of the kind's bytes. Assumes nothing.
+use mathlib.Core.Path.{ap, _∙_}
+use denote.Ref.{now}
+use Rattle.tree.specs.declared.ColorMatrixKind.{ColorMatrixKind}
+use Rattle.tree.proofs.Lengths.{length-colorMatrixKind}
+use Rattle.tree.specs.Sizes.{colorMatrixKindSize}
+use Rattle.tree.specs.Means.{colorMatrixKindIs, identityMatrix}
+use Rattle.tree.proofs.Runs.{length-numbers}
+use Rattle.num.specs.Lists.{numbersIs}
+use native.Mathlib.Omega.{arith}
+use borrow.Author.Needs.{needs}
+use Rattle.tree.proofs.color_matrix_kind_size.Statement.{statement}
+use Rattle.tree.proofs.color_matrix_kind_size.Tie as tie
+
+enum-known-v : tie.Need-enum-known-v
+enum-known-v c = search needs
+
+numbers-size-requires : tie.Need-numbers-size-requires
+numbers-size-requires c κs = search needs
+
+add-result : tie.Need-add-result
+add-result c = search needs
+
+enum-told : tie.Need-enum-told
+enum-told c = search needs
+
+enum-told-2 : tie.Need-enum-told-2
+enum-told-2 c = search needs
+
+enum-told-3 : tie.Need-enum-told-3
+enum-told-3 c = search needs
+
+enum-told-4 : tie.Need-enum-told-4
+enum-told-4 c = search needs
+
+returns : tie.Need-returns
+returns c =
+    let e0 = length-colorMatrixKind (colorMatrixKindIs (now (c .before .before .before .before .before .args .s)) (c .before .before .before .before .before .args .v)) ∙ ap (λ (v : ColorMatrixKind). colorMatrixKindSize (colorMatrixKindIs (now (c .before .before .before .before .before .args .s)) v)) (c .before .before .v .given .1) in
+    let e1 = length-numbers (numbersIs (now (c .before .before .before .before .before .args .s)) (c .before .before .v .given .0 .0)) in
+    (omega arith, omega arith)
+
+returns-2 : tie.Need-returns-2
+unfolding identityMatrix
+returns-2 c =
+    let e0 = length-colorMatrixKind (colorMatrixKindIs (now (c .before .before .before .args .s)) (c .before .before .before .args .v)) ∙ ap (λ (v : ColorMatrixKind). colorMatrixKindSize (colorMatrixKindIs (now (c .before .before .before .args .s)) v)) (c .enum-told .given .1) in
+    (omega arith, omega arith)
+
+returns-3 : tie.Need-returns-3
+returns-3 c =
+    let e0 = length-colorMatrixKind (colorMatrixKindIs (now (c .before .before .before .args .s)) (c .before .before .before .args .v)) ∙ ap (λ (v : ColorMatrixKind). colorMatrixKindSize (colorMatrixKindIs (now (c .before .before .before .args .s)) v)) (c .enum-told2 .given .1) in
+    (omega arith, omega arith)
+
+returns-4 : tie.Need-returns-4
+returns-4 c =
+    let e0 = length-colorMatrixKind (colorMatrixKindIs (now (c .before .before .before .args .s)) (c .before .before .before .args .v)) ∙ ap (λ (v : ColorMatrixKind). colorMatrixKindSize (colorMatrixKindIs (now (c .before .before .before .args .s)) v)) (c .enum-told3 .given .1) in
+    (omega arith, omega arith)
+
+returns-5 : tie.Need-returns-5
+returns-5 c =
+    let e0 = length-colorMatrixKind (colorMatrixKindIs (now (c .before .before .before .args .s)) (c .before .before .before .args .v)) ∙ ap (λ (v : ColorMatrixKind). colorMatrixKindSize (colorMatrixKindIs (now (c .before .before .before .args .s)) v)) (c .enum-told4 .given .1) in
+    (omega arith, omega arith)
+
+pub color-matrix-kind-size-spec : {M : Type 1} → statement M
+color-matrix-kind-size-spec =
+    tie.close
+    (tie.spec
+    enum-known-v
+    numbers-size-requires
+    add-result
+    enum-told
+    enum-told-2
+    enum-told-3
+    enum-told-4
+    returns
+    returns-2
+    returns-3
+    returns-4
+    returns-5)

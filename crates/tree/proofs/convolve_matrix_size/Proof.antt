@@ -1,0 +1,25 @@
+-- All but the kernel's numbers takes 26 bytes. Assumes nothing.
+use denote.Ref.{now}
+use Rattle.tree.proofs.Lengths.{length-convolveMatrix}
+use Rattle.tree.proofs.Runs.{length-numbers}
+use Rattle.num.specs.Lists.{numbersIs}
+use Rattle.tree.specs.Means.{convolveMatrixIs}
+use native.Mathlib.Omega.{arith}
+use borrow.Author.Needs.{needs}
+use Rattle.tree.proofs.convolve_matrix_size.Statement.{statement}
+use Rattle.tree.proofs.convolve_matrix_size.Tie as tie
+
+numbers-size-requires : tie.Need-numbers-size-requires
+numbers-size-requires c κs = search needs
+
+add-result : tie.Need-add-result
+add-result c = search needs
+
+returns : tie.Need-returns
+returns c =
+    let e0 = length-convolveMatrix (convolveMatrixIs (now (c .before .before .before .before .args .s)) (c .before .before .before .before .args .v)) in
+    let e1 = length-numbers (numbersIs (now (c .before .before .before .before .args .s)) (c .before .before .before .before .args .v .matrix .«data»)) in
+    (omega arith, omega arith)
+
+pub convolve-matrix-size-spec : {M : Type 1} → statement M
+convolve-matrix-size-spec = tie.close (tie.spec numbers-size-requires add-result returns)

@@ -1,0 +1,51 @@
+-- By cases, the size is the length of the light's bytes. Assumes nothing.
+use mathlib.Core.Path.{ap, _∙_}
+use Rattle.tree.proofs.Lengths.{length-lightSource}
+use Rattle.tree.specs.Sizes.{lightSourceSize}
+use native.Mathlib.Omega.{arith}
+use borrow.Author.Needs.{needs}
+use Rattle.tree.proofs.light_source_size.Statement.{statement}
+use Rattle.tree.proofs.light_source_size.Tie as tie
+
+enum-told : tie.Need-enum-told
+enum-told c = search needs
+
+enum-told-2 : tie.Need-enum-told-2
+enum-told-2 c = search needs
+
+enum-known-v : tie.Need-enum-known-v
+enum-known-v c = search needs
+
+option-size-requires : tie.Need-option-size-requires
+option-size-requires c κs = search needs
+
+add-result : tie.Need-add-result
+add-result c = search needs
+
+returns : tie.Need-returns
+returns c =
+    let e0 = length-lightSource (c .before .before .args .v) ∙ ap lightSourceSize (c .enum-told .given .1) in
+    (omega arith, omega arith)
+
+returns-2 : tie.Need-returns-2
+returns-2 c =
+    let e0 = length-lightSource (c .before .before .args .v) ∙ ap lightSourceSize (c .enum-told2 .given .1) in
+    (omega arith, omega arith)
+
+returns-3 : tie.Need-returns-3
+returns-3 c =
+    let e0 = length-lightSource (c .before .before .before .before .args .v) ∙ ap lightSourceSize (c .before .before .v .given .1) in
+    (omega arith, omega arith)
+
+pub light-source-size-spec : {M : Type 1} → statement M
+light-source-size-spec =
+    tie.close
+    (tie.spec
+    enum-told
+    enum-told-2
+    enum-known-v
+    option-size-requires
+    add-result
+    returns
+    returns-2
+    returns-3)

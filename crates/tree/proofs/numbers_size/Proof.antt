@@ -1,0 +1,29 @@
+-- A count of two bytes, and four bytes for each number. Assumes nothing.
+use denote.Ref.{now}
+use Rattle.tree.proofs.Runs.{length-numbers}
+use Rattle.num.specs.Lists.{numbersIs}
+use native.Mathlib.Omega.{arith}
+use borrow.Author.Needs.{needs}
+use Rattle.tree.proofs.numbers_size.Statement.{statement}
+use Rattle.tree.proofs.numbers_size.Tie as tie
+
+numbers-len-requires : tie.Need-numbers-len-requires
+numbers-len-requires c κs = search needs
+
+u16-to-u32-requires : tie.Need-u16-to-u32-requires
+u16-to-u32-requires c κs = search needs
+
+mul-result : tie.Need-mul-result
+mul-result c = search needs
+
+add-result : tie.Need-add-result
+add-result c = search needs
+
+returns : tie.Need-returns
+returns c =
+    let e0 = length-numbers (numbersIs (now (c .before .before .before .args .s)) (c .before .before .before .args .v)) in
+    (omega arith, omega arith)
+
+pub numbers-size-spec : {M : Type 1} → statement M
+numbers-size-spec =
+    tie.close (tie.spec numbers-len-requires u16-to-u32-requires mul-result add-result returns)

@@ -1,0 +1,42 @@
+-- Four writers in a row are one. Assumes nothing.
+use native.Mathlib.Omega.{arith}
+use Rattle.bits.proofs.Patches.{_then_, _counted_}
+use Rattle.tree.specs.Fields.{componentTransferBytes}
+use borrow.Author.Needs.{needs}
+use Rattle.tree.proofs.put_component_transfer.Statement.{statement}
+use Rattle.tree.proofs.put_component_transfer.Tie as tie
+
+put-transfer-function-requires : tie.Need-put-transfer-function-requires
+put-transfer-function-requires c κs = search needs
+
+put-transfer-function-requires-2 : tie.Need-put-transfer-function-requires-2
+put-transfer-function-requires-2 c κs = search needs
+
+put-transfer-function-requires-3 : tie.Need-put-transfer-function-requires-3
+put-transfer-function-requires-3 c κs = search needs
+
+put-transfer-function-requires-4 : tie.Need-put-transfer-function-requires-4
+put-transfer-function-requires-4 c κs = search needs
+
+same-length : tie.Need-same-length
+same-length c = search needs
+
+returns : tie.Need-returns
+unfolding componentTransferBytes
+returns c =
+    let c4 = c .before .before in
+    let c3 = c4 .before .before .before .before in
+    let c2 = c3 .before .before .before .before in
+    let c1 = c2 .before .before .before .before in
+    c1 .put-transfer-function .ensures then c2 .put-transfer-function2 .ensures then c3 .put-transfer-function3 .ensures then c4 .put-transfer-function4 .ensures counted omega arith
+
+pub put-component-transfer-spec : {M : Type 1} → statement M
+put-component-transfer-spec =
+    tie.close
+    (tie.spec
+    put-transfer-function-requires
+    put-transfer-function-requires-2
+    put-transfer-function-requires-3
+    put-transfer-function-requires-4
+    same-length
+    returns)

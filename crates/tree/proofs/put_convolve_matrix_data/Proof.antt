@@ -1,0 +1,47 @@
+-- Five writers in a row are one. Assumes nothing.
+use native.Mathlib.Omega.{arith}
+use Rattle.bits.proofs.Patches.{_then_, _counted_}
+use Rattle.tree.specs.Fields.{convolveMatrixDataBytes}
+use borrow.Author.Needs.{needs}
+use Rattle.tree.proofs.put_convolve_matrix_data.Statement.{statement}
+use Rattle.tree.proofs.put_convolve_matrix_data.Tie as tie
+
+put-u32-requires : tie.Need-put-u32-requires
+put-u32-requires c κs = search needs
+
+put-u32-requires-2 : tie.Need-put-u32-requires-2
+put-u32-requires-2 c κs = search needs
+
+put-u32-requires-3 : tie.Need-put-u32-requires-3
+put-u32-requires-3 c κs = search needs
+
+put-u32-requires-4 : tie.Need-put-u32-requires-4
+put-u32-requires-4 c κs = search needs
+
+put-numbers-requires : tie.Need-put-numbers-requires
+put-numbers-requires c κs = search needs
+
+same-length : tie.Need-same-length
+same-length c = search needs
+
+returns : tie.Need-returns
+unfolding convolveMatrixDataBytes
+returns c =
+    let c5 = c .before .before in
+    let c4 = c5 .before .before .before .before in
+    let c3 = c4 .before .before .before .before in
+    let c2 = c3 .before .before .before .before in
+    let c1 = c2 .before .before .before .before in
+    c1 .put-u32 .ensures then c2 .put-u322 .ensures then c3 .put-u323 .ensures then c4 .put-u324 .ensures then c5 .put-numbers .ensures counted omega arith
+
+pub put-convolve-matrix-data-spec : {M : Type 1} → statement M
+put-convolve-matrix-data-spec =
+    tie.close
+    (tie.spec
+    put-u32-requires
+    put-u32-requires-2
+    put-u32-requires-3
+    put-u32-requires-4
+    put-numbers-requires
+    same-length
+    returns)

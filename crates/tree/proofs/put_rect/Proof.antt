@@ -1,0 +1,58 @@
+-- Four writers in a row are one; the width and the height are the differences of the edges. Assumes nothing.
+use native.Mathlib.Omega.{arith}
+use Rattle.bits.proofs.Patches.{_then_, _counted_}
+use Rattle.tree.specs.Scalars.{rectBytes}
+use borrow.Author.Needs.{needs}
+use Rattle.tree.proofs.put_rect.Statement.{statement}
+use Rattle.tree.proofs.put_rect.Tie as tie
+
+x-requires : tie.Need-x-requires
+x-requires c κs = search needs
+
+put-f32-requires : tie.Need-put-f32-requires
+put-f32-requires c κs = search needs
+
+y-requires : tie.Need-y-requires
+y-requires c κs = search needs
+
+put-f32-requires-2 : tie.Need-put-f32-requires-2
+put-f32-requires-2 c κs = search needs
+
+width-requires : tie.Need-width-requires
+width-requires c κs = search needs
+
+put-f32-requires-3 : tie.Need-put-f32-requires-3
+put-f32-requires-3 c κs = search needs
+
+height-requires : tie.Need-height-requires
+height-requires c κs = search needs
+
+put-f32-requires-4 : tie.Need-put-f32-requires-4
+put-f32-requires-4 c κs = search needs
+
+same-length : tie.Need-same-length
+same-length c = search needs
+
+returns : tie.Need-returns
+unfolding rectBytes
+returns c =
+    let c4 = c .before .before in
+    let c3 = c4 .before .before .before .before .before in
+    let c2 = c3 .before .before .before .before .before in
+    let c1 = c2 .before .before .before .before .before in
+    rw (← c .before .before .before .before .before .before .before .before .width .ensures, ← c .before .before .before .height .ensures, ← c .before .before .before .before .before .before .before .before .before .before .before .before .before .before .before .before .before .before .x .ensures, ← c .before .before .before .before .before .before .before .before .before .before .before .before .before .y .ensures) (c1 .put-f32 .ensures then c2 .put-f322 .ensures then c3 .put-f323 .ensures then c4 .put-f324 .ensures counted omega arith)
+
+pub put-rect-spec : {M : Type 1} → statement M
+put-rect-spec =
+    tie.close
+    (tie.spec
+    x-requires
+    put-f32-requires
+    y-requires
+    put-f32-requires-2
+    width-requires
+    put-f32-requires-3
+    height-requires
+    put-f32-requires-4
+    same-length
+    returns)

@@ -1,0 +1,56 @@
+-- Six writers in a row are one; the seed, a signed field, is read back from its bits as itself. Assumes nothing.
+use mathlib.Core.Path.{_≡_}
+use mir.Syntax.{w32}
+use mir.Val.{toZ, ofZ}
+use native.Mathlib.Omega.{arith}
+use Rattle.bits.proofs.Patches.{_then_, _counted_}
+use Rattle.tree.specs.Fields.{turbulenceBytes}
+use borrow.Author.Needs.{needs}
+use Rattle.tree.proofs.put_turbulence.Statement.{statement}
+use Rattle.tree.proofs.put_turbulence.Tie as tie
+
+put-f32-requires : tie.Need-put-f32-requires
+put-f32-requires c κs = search needs
+
+put-f32-requires-2 : tie.Need-put-f32-requires-2
+put-f32-requires-2 c κs = search needs
+
+put-u32-requires : tie.Need-put-u32-requires
+put-u32-requires c κs = search needs
+
+put-i32-requires : tie.Need-put-i32-requires
+put-i32-requires c κs = search needs
+
+put-bool-requires : tie.Need-put-bool-requires
+put-bool-requires c κs = search needs
+
+turbulence-kind-place-requires : tie.Need-turbulence-kind-place-requires
+turbulence-kind-place-requires c κs = search needs
+
+put-u8-requires : tie.Need-put-u8-requires
+put-u8-requires c κs = search needs
+
+same-length : tie.Need-same-length
+same-length c = search needs
+
+returns : tie.Need-returns
+unfolding turbulenceBytes
+returns c =
+    let z = c .before .before .before .before .before .before .before .before .before .before .before .before .before .before .before .before .before .before .before .before .before .before .before .before .before .before .before .args .v .seed in
+    let e : toZ w32 (ofZ w32 z) ≡ z = search needs in
+    let p = rw e at (c .before .before .before .before .before .before .before .before .before .before .before .put-i32 .ensures) in
+    rw (← c .before .before .before .turbulence-kind-place .ensures) (c .before .before .before .before .before .before .before .before .before .before .before .before .before .before .before .before .before .before .before .before .before .before .before .before .put-f32 .ensures then c .before .before .before .before .before .before .before .before .before .before .before .before .before .before .before .before .before .before .before .before .put-f322 .ensures then c .before .before .before .before .before .before .before .before .before .before .before .before .before .before .before .before .put-u32 .ensures then p then c .before .before .before .before .before .before .before .put-bool .ensures then c .before .before .put-u8 .ensures counted omega arith)
+
+pub put-turbulence-spec : {M : Type 1} → statement M
+put-turbulence-spec =
+    tie.close
+    (tie.spec
+    put-f32-requires
+    put-f32-requires-2
+    put-u32-requires
+    put-i32-requires
+    put-bool-requires
+    turbulence-kind-place-requires
+    put-u8-requires
+    same-length
+    returns)

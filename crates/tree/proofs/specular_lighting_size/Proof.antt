@@ -1,0 +1,21 @@
+-- All but the light takes 15 bytes. Assumes nothing.
+use Rattle.tree.proofs.Lengths.{length-specularLighting, length-lightSource}
+use native.Mathlib.Omega.{arith}
+use borrow.Author.Needs.{needs}
+use Rattle.tree.proofs.specular_lighting_size.Statement.{statement}
+use Rattle.tree.proofs.specular_lighting_size.Tie as tie
+
+light-source-size-requires : tie.Need-light-source-size-requires
+light-source-size-requires c κs = search needs
+
+add-result : tie.Need-add-result
+add-result c = search needs
+
+returns : tie.Need-returns
+returns c =
+    let e0 = length-specularLighting (c .before .args .v) in
+    let e1 = length-lightSource (c .before .args .v .«light_source») in
+    (omega arith, omega arith)
+
+pub specular-lighting-size-spec : {M : Type 1} → statement M
+specular-lighting-size-spec = tie.close (tie.spec light-source-size-requires add-result returns)

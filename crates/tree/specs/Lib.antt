@@ -1,0 +1,9 @@
+pub mod Input
+pub mod Scalars
+pub mod Places
+pub mod Kinds
+pub mod Fields
+pub mod List
+pub mod Means
+pub mod Sizes
+pub mod Cases

@@ -1,0 +1,61 @@
+-- How many bytes each value takes, where that differs from value to value: the lengths of the bytes in Fields.antt, as
+-- proofs/Lengths.antt says of each. Definitions only.
+use Prim.Native.Nat.{ℕ, _+_}
+use Rattle.tree.specs.Scalars.{optionSize, numbersSize}
+use Rattle.tree.specs.Kinds.{ColorMatrixKind, Matrix, Saturate, HueRotate, LuminanceToAlpha, TransferFunction, Identity, Table, Discrete, Linear, Gamma, ComponentTransferFields, ConvolveMatrixData, ConvolveMatrixFields}
+use Rattle.tree.specs.declared.CompositeOperator.{CompositeOperator}
+use Rattle.tree.specs.declared.CompositeOperator.the-variants.{Over, In, Out, Atop, Xor, Lighter, Arithmetic}
+use Rattle.tree.specs.declared.SpotLight.{SpotLight}
+use Rattle.tree.specs.declared.LightSource.{LightSource}
+use Rattle.tree.specs.declared.LightSource.the-variants as light
+use Rattle.tree.specs.declared.DiffuseLighting.{DiffuseLighting}
+use Rattle.tree.specs.declared.SpecularLighting.{SpecularLighting}
+
+abbrev pub colorMatrixKindSize : ColorMatrixKind → ℕ
+colorMatrixKindSize (Matrix xs) = 1 + numbersSize xs
+colorMatrixKindSize (Saturate x) = 5
+colorMatrixKindSize (HueRotate x) = 5
+colorMatrixKindSize LuminanceToAlpha = 1
+
+abbrev pub transferFunctionSize : TransferFunction → ℕ
+transferFunctionSize Identity = 1
+transferFunctionSize (Table xs) = 1 + numbersSize xs
+transferFunctionSize (Discrete xs) = 1 + numbersSize xs
+transferFunctionSize (Linear slope intercept) = 9
+transferFunctionSize (Gamma amplitude exponent offset) = 13
+
+abbrev pub componentTransferSize : ComponentTransferFields → ℕ
+componentTransferSize v =
+    transferFunctionSize (v .«func_r»)
+    + transferFunctionSize (v .«func_g»)
+    + transferFunctionSize (v .«func_b»)
+    + transferFunctionSize (v .«func_a»)
+
+abbrev pub compositeOperatorSize : CompositeOperator → ℕ
+compositeOperatorSize Over = 1
+compositeOperatorSize In = 1
+compositeOperatorSize Out = 1
+compositeOperatorSize Atop = 1
+compositeOperatorSize Xor = 1
+compositeOperatorSize Lighter = 1
+compositeOperatorSize (Arithmetic k1 k2 k3 k4) = 17
+
+abbrev pub convolveMatrixDataSize : ConvolveMatrixData → ℕ
+convolveMatrixDataSize v = 16 + numbersSize (v .numbers)
+
+abbrev pub convolveMatrixSize : ConvolveMatrixFields → ℕ
+convolveMatrixSize v = convolveMatrixDataSize (v .matrix) + 10
+
+abbrev pub spotLightSize : SpotLight → ℕ
+spotLightSize l = 28 + optionSize (l .«limiting_cone_angle»)
+
+abbrev pub lightSourceSize : LightSource → ℕ
+lightSourceSize (light.DistantLight l) = 9
+lightSourceSize (light.PointLight l) = 13
+lightSourceSize (light.SpotLight l) = 1 + spotLightSize l
+
+abbrev pub diffuseLightingSize : DiffuseLighting → ℕ
+diffuseLightingSize v = 11 + lightSourceSize (v .«light_source»)
+
+abbrev pub specularLightingSize : SpecularLighting → ℕ
+specularLightingSize v = 15 + lightSourceSize (v .«light_source»)
