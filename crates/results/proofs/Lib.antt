@@ -1,0 +1,8 @@
+pub mod Words
+pub mod Naming
+pub mod Made
+pub mod Claim
+pub mod Examples
+pub mod Spelling
+pub mod Tables
+pub mod Sizes

@@ -1,0 +1,5 @@
+pub mod Names
+pub mod Inputs
+pub mod Agreement
+pub mod Cases
+pub mod Means
