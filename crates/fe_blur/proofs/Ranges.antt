@@ -1,0 +1,59 @@
+-- The numbers of these kinds are in their ranges, for every node and every scale that is finite. Assumes nothing.
+use lib.Dec.{T, leb}
+use lib.Ieee.{Float, binary32, ofBits, mul, le}
+use lib.Ieee.Scale.{finite}
+use Rattle.names.specs.Ids.{AId·StdDeviation, AId·FloodOpacity, AId·Dx, AId·Dy}
+use Rattle.num.specs.Narrowed.{plusZero}
+use Rattle.num.specs.Sign.{positive}
+use Rattle.num.proofs.Finite.{zero-finite}
+use Rattle.geom.specs.declared.Size.{Size}
+use Rattle.svgtree.specs.Values.{Node}
+use Rattle.svgtree.specs.Readers.{triesOf}
+use Rattle.fe.specs.Attributes.{numberOr}
+use Rattle.fe_blur.specs.Deviations.{deviation, numbersOrDefault, gaussianBlurOf}
+use Rattle.fe_blur.specs.Floods.{one, floodColor, alphaOpacity, floodOf, transparentBlack}
+use Rattle.fe_blur.specs.Offsets.{two, offsetFieldsOf, dropShadowOf}
+use Rattle.fe_blur.specs.Ranges.{opacityOk, GaussianBlurRange, FloodRange, OffsetRange, DropShadowRange}
+use Rattle.fe_blur.proofs.Numbers.{scaled-num, made-positive}
+use Rattle.fe_blur.proofs.Opacity.{mul-ok, alpha-ok}
+
+deviation-positive : (n scale : Float) → T (positive (deviation n scale))
+unfolding deviation
+deviation-positive n scale = made-positive (mul binary32 n scale)
+
+pub gaussian-blur-range : (n : Node) (scale : Size) → GaussianBlurRange (gaussianBlurOf n scale)
+gaussian-blur-range n scale =
+    let p = numbersOrDefault (triesOf n AId·StdDeviation) plusZero in
+    record { deviation-x = deviation-positive (p .x) (scale .width); deviation-y = deviation-positive (p .y) (scale .height) }
+
+-- a colour's alpha is a byte, and a sheet whose flood-opacity is out of range is refused
+module _ (n : Node) (alpha : T (leb (floodColor n .alpha) 255)) (given : T (opacityOk (numberOr n AId·FloodOpacity one))) where
+  pub flood-range : FloodRange (floodOf n)
+  flood-range = record { opacity = mul-ok (alphaOpacity (floodColor n .alpha)) (numberOr n AId·FloodOpacity one) (alpha-ok (floodColor n .alpha) alpha) given }
+
+two-finite : T (finite two)
+unfolding ofBits
+two-finite = tt
+
+module _ (n : Node) (scale : Size) (width : T (finite (scale .width))) (height : T (finite (scale .height))) where
+  pub offset-range : OffsetRange (offsetFieldsOf n scale)
+  offset-range =
+      record {
+        dx = scaled-num n AId·Dx plusZero (scale .width) zero-finite width;
+        dy = scaled-num n AId·Dy plusZero (scale .height) zero-finite height;
+      }
+
+  pub drop-shadow-range : T (leb (floodColor n .alpha) 255) → T (opacityOk (numberOr n AId·FloodOpacity one)) → DropShadowRange (dropShadowOf n scale)
+  drop-shadow-range alpha given =
+      let p = numbersOrDefault (triesOf n AId·StdDeviation) two in
+      record {
+        dx = scaled-num n AId·Dx two (scale .width) two-finite width;
+        dy = scaled-num n AId·Dy two (scale .height) two-finite height;
+        deviation-x = deviation-positive (p .x) (scale .width);
+        deviation-y = deviation-positive (p .y) (scale .height);
+        opacity = flood-range n alpha given .opacity;
+      }
+
+pub transparent-black-range : FloodRange transparentBlack
+unfolding ofBits le
+transparent-black-range = record { opacity = tt }

@@ -1,0 +1,20 @@
+-- The test of the code is that of the definition. Assumes nothing.
+use mathlib.Core.Path.{sym, _∙_}
+use Rattle.fe_blur.specs.Deviations.{deviation}
+use borrow.Author.Needs.{needs}
+use Rattle.fe_blur.proofs.scaled_deviation.Statement.{statement}
+use Rattle.fe_blur.proofs.scaled_deviation.Tie as tie
+
+is-positive-requires : tie.Need-is-positive-requires
+is-positive-requires c κs = search needs
+
+returns : tie.Need-returns
+unfolding deviation
+returns c = simp (sym (c .before .is-positive .ensures) ∙ c .if1 .taken)
+
+returns-2 : tie.Need-returns-2
+unfolding deviation
+returns-2 c = simp (sym (c .before .is-positive .ensures) ∙ c .if1 .left)
+
+pub scaled-deviation-spec : {M : Type 1} → statement M
+scaled-deviation-spec = tie.close (tie.spec is-positive-requires returns returns-2)

@@ -1,0 +1,5 @@
+pub mod Deviations
+pub mod Floods
+pub mod Offsets
+pub mod Ranges
+pub mod Cases

@@ -1,0 +1,23 @@
+-- A table of keywords read from its front: the first word is the text, or it is not. Assumes nothing.
+use Prim.Native.Nat.{ℕ}
+use Prim.Native.String.{String}
+use mathlib.Core.Bool.{Bool, true, false, cond}
+use mathlib.Core.Path.{_≡_, refl, sym, ap, _∙_}
+use mathlib.Core.List.{List, [], _∷_}
+use mathlib.Core.Option.{Option}
+use Rattle.bits.specs.Words.{word}
+use Rattle.fe.specs.Attributes.{isWord}
+use Rattle.fe_color.specs.Keywords.{Keyword, _means_, keyword}
+
+module _ {A : Type 0} (w : String) (v : A) (ks : List (Keyword A)) (default : A) (t : Option (List ℕ)) (b : Bool) where
+  pub hit : b ≡ isWord t (word w) → b ≡ true → v ≡ keyword (w means v ∷ ks) default t
+  unfolding keyword
+  hit e h = ap (λ (z : Bool). cond z v (keyword ks default t)) (sym h ∙ e)
+
+  pub miss : (x : A) → b ≡ isWord t (word w) → b ≡ false → x ≡ keyword ks default t → x ≡ keyword (w means v ∷ ks) default t
+  unfolding keyword
+  miss x e h r = r ∙ ap (λ (z : Bool). cond z v (keyword ks default t)) (sym h ∙ e)
+
+pub other : {A : Type 0} (default : A) (t : Option (List ℕ)) → default ≡ keyword [] default t
+unfolding keyword
+other default t = refl

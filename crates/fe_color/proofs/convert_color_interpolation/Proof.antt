@@ -1,0 +1,30 @@
+-- `fe_color::convert_color_interpolation` meets its contract: one word is tested, and any other text gives the default. Assumes nothing.
+use Rattle.fe_color.proofs.Words.{hit, miss, other}
+use borrow.Author.Needs.{needs}
+use Rattle.fe_color.proofs.convert_color_interpolation.Statement.{statement}
+use Rattle.fe_color.proofs.convert_color_interpolation.Tie as tie
+
+text-of-requires : tie.Need-text-of-requires
+text-of-requires c κs = search needs
+
+slice-aggregate-is-word : tie.Need-slice-aggregate-is-word
+slice-aggregate-is-word c = search needs
+
+is-word-requires : tie.Need-is-word-requires
+is-word-requires c κs = search needs
+
+returns : tie.Need-returns
+returns c =
+    rw (← c .before .before .before .text-of .ensures)
+    (hit _ _ _ _ _ _ (c .before .is-word .ensures) (c .if1 .taken))
+
+returns-2 : tie.Need-returns-2
+returns-2 c =
+    rw (← c .before .before .before .text-of .ensures)
+    (miss _ _ _ _ _ _ _ (c .before .is-word .ensures) (c .if1 .left)
+    (other _ _))
+
+pub convert-color-interpolation-spec : {M : Type 1} → statement M
+convert-color-interpolation-spec =
+    tie.close
+    (tie.spec text-of-requires slice-aggregate-is-word is-word-requires returns returns-2)

@@ -1,0 +1,9 @@
+pub mod Keywords
+pub mod Numbers
+pub mod Blend
+pub mod ColorMatrix
+pub mod ComponentTransfer
+pub mod Composite
+pub mod Interpolation
+pub mod Means
+pub mod Ranges

@@ -1,0 +1,74 @@
+-- The first light among all n children is the first among the `left` that follow node k, as long as none was found. Assumes nothing.
+use borrow.Author.Needs.{needs}
+use Prim.Native.Nat.{_+_}
+use mathlib.Core.Path.{_≡_, refl, sym, _∙_}
+use native.Mathlib.Omega.{arith}
+use denote.Ref.{now}
+use Rattle.svgtree.specs.Parse.{nodesFrom}
+use Rattle.fe_light.specs.Lights.{lightSourceOf}
+use Rattle.fe_light.proofs.Turns.{first-is, first-not, none-left}
+use Rattle.fe_light.proofs.convert_light_source.Statement.{statement}
+use Rattle.fe_light.proofs.convert_light_source.Tie as tie
+
+abbrev Inv-loop : tie.InvT-loop
+Inv-loop s i n k₀ left₀ k left = (k + left ≡ i + n) × (lightSourceOf (nodesFrom s (i + 1) n) ≡ lightSourceOf (nodesFrom s (k + 1) left))
+
+abbrev μ-loop : tie.MeasureT-loop
+μ-loop s i n k₀ left₀ k left = left
+
+loop-holds : tie.Need-loop-holds Inv-loop μ-loop
+loop-holds c = (search needs, refl)
+
+add-k : tie.Need-add-k Inv-loop μ-loop
+add-k c = search needs
+
+node-offset-requires : tie.Need-node-offset-requires Inv-loop μ-loop
+node-offset-requires c κs = search needs
+
+light-requires : tie.Need-light-requires Inv-loop μ-loop
+light-requires c κs = search needs
+
+enum-known-found : tie.Need-enum-known-found Inv-loop μ-loop
+enum-known-found c = search needs
+
+returns : tie.Need-returns Inv-loop μ-loop
+returns c =
+    let l = c .before .before .before .before .before .before .loop in
+    sym (l .inv .1 ∙ first-is (now (c .before .before .before .before .before .before .before .before .args .s)) (l .k + 1) (l .left) (omega arith) _ (sym (rw (c .before .before .before .before .node-offset .ensures) at (c .before .before .before .light .ensures)) ∙ c .before .found .given .1))
+
+enum-told : tie.Need-enum-told Inv-loop μ-loop
+enum-told c = search needs
+
+sub-left : tie.Need-sub-left Inv-loop μ-loop
+sub-left c = search needs
+
+loop-less : tie.Need-loop-less Inv-loop μ-loop
+loop-less c = search needs
+
+loop-again : tie.Need-loop-again Inv-loop μ-loop
+loop-again c =
+    let l = c .before .before .before .before .before .loop in
+    (search needs, l .inv .1 ∙ first-not (now (c .before .before .before .before .before .before .before .args .s)) (l .k + 1) (l .left) (omega arith) (sym (rw (c .before .before .before .node-offset .ensures) at (c .before .before .light .ensures)) ∙ c .enum-told .given .1))
+
+returns-2 : tie.Need-returns-2 Inv-loop μ-loop
+returns-2 c =
+    let l = c .before .loop in
+    sym (l .inv .1 ∙ none-left (now (c .before .before .before .args .s)) (l .k + 1) (l .left) (omega arith))
+
+pub convert-light-source-spec : {M : Type 1} → statement M
+convert-light-source-spec =
+    tie.close
+    (tie.spec
+    Inv-loop
+    μ-loop
+    loop-holds
+    add-k
+    node-offset-requires
+    light-requires
+    enum-known-found
+    returns
+    enum-told
+    sub-left
+    loop-less
+    loop-again
+    returns-2)

@@ -1,0 +1,4 @@
+pub mod Lights
+pub mod Lighting
+pub mod Ranges
+pub mod Cases

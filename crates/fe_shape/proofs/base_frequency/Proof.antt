@@ -1,0 +1,37 @@
+-- By cases on whether the list is there; where it is, the calls' contracts follow one another. Assumes nothing.
+use borrow.Author.Needs.{needs}
+use Rattle.fe_shape.proofs.base_frequency.Statement.{statement}
+use Rattle.fe_shape.proofs.base_frequency.Tie as tie
+
+numbers-of-requires : tie.Need-numbers-of-requires
+numbers-of-requires c κs = search needs
+
+enum-known-list : tie.Need-enum-known-list
+enum-known-list c = search needs
+
+list-pair-requires : tie.Need-list-pair-requires
+list-pair-requires c κs = search needs
+
+frequency-from-requires : tie.Need-frequency-from-requires
+frequency-from-requires c κs = search needs
+
+enum-told : tie.Need-enum-told
+enum-told c = search needs
+
+returns : tie.Need-returns
+returns c = rw (← c .before .before .before .before .before .numbers-of .ensures, c .before .before .before .list .given .1, ← c .before .list-pair .ensures) (c .frequency-from .ensures)
+
+returns-2 : tie.Need-returns-2
+returns-2 c = rw (← c .before .before .numbers-of .ensures, c .enum-told .given .1)
+
+pub base-frequency-spec : {M : Type 1} → statement M
+base-frequency-spec =
+    tie.close
+    (tie.spec
+    numbers-of-requires
+    enum-known-list
+    list-pair-requires
+    frequency-from-requires
+    enum-told
+    returns
+    returns-2)

@@ -1,0 +1,29 @@
+-- The two tests of the code are those of the definition. Assumes nothing.
+use mathlib.Core.Path.{sym, _∙_}
+use borrow.Author.Tests.{not-true, not-false}
+use Rattle.fe_shape.specs.Pairs.{ifPositive}
+use borrow.Author.Needs.{needs}
+use Rattle.fe_shape.proofs.if_positive.Statement.{statement}
+use Rattle.fe_shape.proofs.if_positive.Tie as tie
+
+is-positive-requires : tie.Need-is-positive-requires
+is-positive-requires c κs = search needs
+
+returns : tie.Need-returns
+unfolding ifPositive
+returns c = simp (sym (c .before .is-positive .ensures) ∙ not-true (c .before .is-positive .result) (c .if1 .taken))
+
+is-positive-requires-2 : tie.Need-is-positive-requires-2
+is-positive-requires-2 c κs = search needs
+
+returns-2 : tie.Need-returns-2
+unfolding ifPositive
+returns-2 c = simp (sym (c .before .before .before .is-positive .ensures) ∙ not-false (c .before .before .before .is-positive .result) (c .before .before .if1 .left), sym (c .before .is-positive2 .ensures) ∙ not-true (c .before .is-positive2 .result) (c .if2 .taken))
+
+returns-3 : tie.Need-returns-3
+unfolding ifPositive
+returns-3 c = simp (sym (c .before .before .before .is-positive .ensures) ∙ not-false (c .before .before .before .is-positive .result) (c .before .before .if1 .left), sym (c .before .is-positive2 .ensures) ∙ not-false (c .before .is-positive2 .result) (c .if2 .left))
+
+pub if-positive-spec : {M : Type 1} → statement M
+if-positive-spec =
+    tie.close (tie.spec is-positive-requires returns is-positive-requires-2 returns-2 returns-3)

@@ -1,0 +1,46 @@
+-- By cases on whether the list is there; where it is, the calls' contracts follow one another. Assumes nothing.
+use mathlib.Core.Path.{_∙_, ap}
+use Rattle.fe_shape.specs.declared.Pair.{Pair}
+use Rattle.fe_shape.specs.Morphologies.{onesForZeros, radiusFrom}
+use borrow.Author.Needs.{needs}
+use Rattle.fe_shape.proofs.radius.Statement.{statement}
+use Rattle.fe_shape.proofs.radius.Tie as tie
+
+numbers-of-requires : tie.Need-numbers-of-requires
+numbers-of-requires c κs = search needs
+
+enum-known-list : tie.Need-enum-known-list
+enum-known-list c = search needs
+
+list-pair-requires : tie.Need-list-pair-requires
+list-pair-requires c κs = search needs
+
+ones-for-zeros-requires : tie.Need-ones-for-zeros-requires
+ones-for-zeros-requires c κs = search needs
+
+radius-from-requires : tie.Need-radius-from-requires
+radius-from-requires c κs = search needs
+
+enum-told : tie.Need-enum-told
+enum-told c = search needs
+
+returns : tie.Need-returns
+returns c =
+    rw (← c .before .before .before .before .before .before .numbers-of .ensures, c .before .before .before .before .list .given .1)
+    (c .radius-from .ensures ∙ ap (λ (p : Pair). radiusFrom p (c .before .before .before .before .before .before .before .before .args .scale)) (c .before .ones-for-zeros .ensures ∙ ap onesForZeros (c .before .before .list-pair .ensures)))
+
+returns-2 : tie.Need-returns-2
+returns-2 c = rw (← c .before .before .numbers-of .ensures, c .enum-told .given .1)
+
+pub radius-spec : {M : Type 1} → statement M
+radius-spec =
+    tie.close
+    (tie.spec
+    numbers-of-requires
+    enum-known-list
+    list-pair-requires
+    ones-for-zeros-requires
+    radius-from-requires
+    enum-told
+    returns
+    returns-2)

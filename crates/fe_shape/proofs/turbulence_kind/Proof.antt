@@ -1,0 +1,26 @@
+-- The word is compared with the attribute's text. Assumes nothing.
+use Rattle.bits.specs.Words.{word}
+use Rattle.fe_shape.proofs.Words.{compared}
+use borrow.Author.Needs.{needs}
+use Rattle.fe_shape.proofs.turbulence_kind.Statement.{statement}
+use Rattle.fe_shape.proofs.turbulence_kind.Tie as tie
+
+text-of-requires : tie.Need-text-of-requires
+text-of-requires c κs = search needs
+
+slice-aggregate-is-word : tie.Need-slice-aggregate-is-word
+slice-aggregate-is-word c = search needs
+
+is-word-requires : tie.Need-is-word-requires
+is-word-requires c κs = search needs
+
+returns : tie.Need-returns
+returns c = simp (compared (word "fractalNoise") (c .before .before .before .text-of .ensures) (c .before .is-word .ensures) (c .if1 .taken))
+
+returns-2 : tie.Need-returns-2
+returns-2 c = simp (compared (word "fractalNoise") (c .before .before .before .text-of .ensures) (c .before .is-word .ensures) (c .if1 .left))
+
+pub turbulence-kind-spec : {M : Type 1} → statement M
+turbulence-kind-spec =
+    tie.close
+    (tie.spec text-of-requires slice-aggregate-is-word is-word-requires returns returns-2)

@@ -1,0 +1,6 @@
+pub mod Pairs
+pub mod Morphologies
+pub mod Displacements
+pub mod Turbulences
+pub mod Ranges
+pub mod Cases

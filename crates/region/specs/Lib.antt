@@ -1,0 +1,2 @@
+pub mod Subregions
+pub mod Cases

@@ -1,0 +1,3 @@
+pub mod Lookup
+pub mod ByKind
+pub mod Following

@@ -1,0 +1,26 @@
+use Prim.Native.Nat.{_*_}
+use Rattle.svgtree.specs.Parse.{headerOf}
+use Rattle.num.specs.Narrowed.{singleOf}
+use borrow.Author.Needs.{needs}
+use Rattle.svgtree.proofs.view_box_height.Statement.{statement}
+use Rattle.svgtree.proofs.view_box_height.Tie as tie
+use Rattle.svgtree.proofs.view_box_height.Reads as reads
+use Rattle.svgtree.proofs.view_box_height.Lts as lts
+use Rattle.bits.proofs.get32.Reads as get32-reads
+use Rattle.num.proofs.single.Reads as single-reads
+
+-- src/lib.rt:400:12
+get32-requires : tie.Need-get32-requires
+get32-requires c κs = search needs
+
+-- src/lib.rt:400:5
+single-requires : tie.Need-single-requires
+single-requires c κs = search needs
+
+-- src/lib.rt:397:1
+returns : tie.Need-returns
+unfolding headerOf singleOf
+returns c = cc
+
+pub view-box-height-spec : {M : Type 1} → statement M
+view-box-height-spec = tie.close (tie.spec get32-requires single-requires returns)

@@ -1,0 +1,108 @@
+-- `units::convert_length` meets its contract: each arm is the definition's formula for its unit, and the percentage's arm is what its two callees give. Assumes nothing.
+use Rattle.units.proofs.Same.{percent-length}
+use Rattle.units.specs.Lengths.{convertLength}
+use borrow.Author.Needs.{needs}
+use Rattle.units.proofs.convert_length.Statement.{statement}
+use Rattle.units.proofs.convert_length.Tie as tie
+
+enum-told : tie.Need-enum-told
+enum-told c = search needs
+
+enum-told-2 : tie.Need-enum-told-2
+enum-told-2 c = search needs
+
+enum-told-3 : tie.Need-enum-told-3
+enum-told-3 c = search needs
+
+enum-told-4 : tie.Need-enum-told-4
+enum-told-4 c = search needs
+
+enum-told-5 : tie.Need-enum-told-5
+enum-told-5 c = search needs
+
+enum-told-6 : tie.Need-enum-told-6
+enum-told-6 c = search needs
+
+enum-told-7 : tie.Need-enum-told-7
+enum-told-7 c = search needs
+
+enum-told-8 : tie.Need-enum-told-8
+enum-told-8 c = search needs
+
+enum-told-9 : tie.Need-enum-told-9
+enum-told-9 c = search needs
+
+enum-told-10 : tie.Need-enum-told-10
+enum-told-10 c = search needs
+
+percent-base-requires : tie.Need-percent-base-requires
+percent-base-requires c κs = search needs
+
+convert-percent-requires : tie.Need-convert-percent-requires
+convert-percent-requires c κs = search needs
+
+returns : tie.Need-returns
+unfolding convertLength
+returns c = cc
+
+returns-2 : tie.Need-returns-2
+unfolding convertLength
+returns-2 c = cc
+
+returns-3 : tie.Need-returns-3
+unfolding convertLength
+returns-3 c = cc
+
+returns-4 : tie.Need-returns-4
+unfolding convertLength
+returns-4 c = cc
+
+returns-5 : tie.Need-returns-5
+unfolding convertLength
+returns-5 c = cc
+
+returns-6 : tie.Need-returns-6
+unfolding convertLength
+returns-6 c = cc
+
+returns-7 : tie.Need-returns-7
+unfolding convertLength
+returns-7 c = cc
+
+returns-8 : tie.Need-returns-8
+unfolding convertLength
+returns-8 c = cc
+
+returns-9 : tie.Need-returns-9
+unfolding convertLength
+returns-9 c = cc
+
+returns-10 : tie.Need-returns-10
+returns-10 c = percent-length (c .before .before .before .before .args .length) (c .before .before .before .before .args .aid) (c .before .before .before .before .args .units) (c .before .before .before .before .args .state) (c .before .before .before .before .args .font-size) (c .before .percent-base .result) (c .convert-percent .result) (c .before .before .enum-told10 .given .1) (c .before .percent-base .ensures) (c .convert-percent .ensures)
+
+pub convert-length-spec : {M : Type 1} → statement M
+convert-length-spec =
+    tie.close
+    (tie.spec
+    enum-told
+    enum-told-2
+    enum-told-3
+    enum-told-4
+    enum-told-5
+    enum-told-6
+    enum-told-7
+    enum-told-8
+    enum-told-9
+    enum-told-10
+    percent-base-requires
+    convert-percent-requires
+    returns
+    returns-2
+    returns-3
+    returns-4
+    returns-5
+    returns-6
+    returns-7
+    returns-8
+    returns-9
+    returns-10)

@@ -1,0 +1,10 @@
+-- `units::hundred_twenty_percent` meets its contract: the literal's bits are those of the definition, by computing. Assumes nothing.
+use borrow.Author.Needs.{needs}
+use Rattle.units.proofs.hundred_twenty_percent.Statement.{statement}
+use Rattle.units.proofs.hundred_twenty_percent.Tie as tie
+
+returns : tie.Need-returns
+returns c = search needs
+
+pub hundred-twenty-percent-spec : {M : Type 1} → statement M
+hundred-twenty-percent-spec = tie.close (tie.spec returns)

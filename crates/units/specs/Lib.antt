@@ -1,0 +1,3 @@
+pub mod Lengths
+pub mod Region
+pub mod Cases
