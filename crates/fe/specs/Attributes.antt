@@ -3,7 +3,7 @@ use Prim.Native.Nat.{ℕ}
 use mathlib.Core.Bool.{Bool, true, false}
 use mathlib.Core.List.{List}
 use mathlib.Core.Option.{Option, none, some}
-use lib.Ieee.{Float}
+use lib.Ieee.{Float, binary32, ofBits}
 use Rattle.bits.specs.Bytes.{same}
 use Rattle.svgtree.specs.declared.MaybeNumber.{MaybeNumber}
 use Rattle.svgtree.specs.declared.MaybeNumber.the-variants.{Is, No}
@@ -23,3 +23,10 @@ numberOr n id d = orElse (numberOf n id) d
 abbrev pub isWord : Option (List ℕ) → List ℕ → Bool
 isWord none w = false
 isWord (some t) w = same t w
+
+-- 1 and 2, the defaults of most attributes that are not 0
+abbrev pub one : Float
+one = ofBits binary32 0x3f80_0000
+
+abbrev pub two : Float
+two = ofBits binary32 0x4000_0000

@@ -1,4 +1,4 @@
--- Numbers that are read from a node are finite, and a scaled one is no NaN. Assumes nothing.
+-- A scaled number is no NaN, and what is made positive is. Assumes nothing.
 use Prim.Native.Nat.{ℕ}
 use mathlib.Core.Bool.{Bool, true, false, cond}
 use lib.Dec.{T}
@@ -8,23 +8,9 @@ use lib.Ieee.Fits.{and-l}
 use Rattle.num.specs.Narrowed.{plusZero}
 use Rattle.num.specs.Sign.{positive}
 use Rattle.num.proofs.Laws.{Num, finite-num, mul-num}
-use Rattle.num.proofs.Finite.{orZero-finite}
-use Rattle.svgtree.specs.Values.{Node, Value, absent, textValue, numberValue, numbersValue, lengthValue, colorValue, triesValue}
-use Rattle.svgtree.specs.Readers.{numberIn, lookup}
-use Rattle.fe.specs.Attributes.{orElse, numberOr}
-
-or-else-finite : (v : Value) (d : Float) → T (finite d) → T (finite (orElse (numberIn v) d))
-unfolding numberIn
-or-else-finite absent d h = h
-or-else-finite (textValue t) d h = h
-or-else-finite (numberValue x) d h = orZero-finite x
-or-else-finite (numbersValue xs) d h = h
-or-else-finite (lengthValue u x) d h = h
-or-else-finite (colorValue k) d h = h
-or-else-finite (triesValue t) d h = h
-
-pub number-or-finite : (n : Node) (id : ℕ) (d : Float) → T (finite d) → T (finite (numberOr n id d))
-number-or-finite n id d h = or-else-finite (lookup id (n .attributes)) d h
+use Rattle.svgtree.specs.Values.{Node}
+use Rattle.fe.proofs.Numbers.{number-or-finite}
+use Rattle.fe.specs.Attributes.{numberOr}
 
 pub scaled-num : (n : Node) (id : ℕ) (d scale : Float) → T (finite d) → T (finite scale) → Num (mul binary32 (numberOr n id d) scale)
 scaled-num n id d scale h k = mul-num binary32 (numberOr n id d) scale (number-or-finite n id d h) k

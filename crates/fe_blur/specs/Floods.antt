@@ -13,9 +13,7 @@ use Rattle.svgtree.specs.Readers.{colorOf}
 use Rattle.tree.specs.declared.Flood.{Flood}
 use Rattle.fe.specs.Attributes.{numberOr}
 use Rattle.fe_blur.specs.declared.SplitColor.{SplitColor}
-
-abbrev pub one : Float
-one = ofBits binary32 0x3f80_0000
+pub use Rattle.fe.specs.Attributes.{one}
 
 -- black, opaque
 abbrev pub black : Color

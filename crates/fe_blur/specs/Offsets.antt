@@ -11,9 +11,7 @@ use Rattle.tree.specs.declared.DropShadow.{DropShadow}
 use Rattle.fe.specs.Attributes.{numberOr}
 use Rattle.fe_blur.specs.Deviations.{deviationsOf}
 use Rattle.fe_blur.specs.Floods.{floodOf}
-
-abbrev pub two : Float
-two = ofBits binary32 0x4000_0000
+pub use Rattle.fe.specs.Attributes.{two}
 
 -- `dx` and `dy`, scaled
 abbrev pub offsetsOf : Node → Size → Float → Offset

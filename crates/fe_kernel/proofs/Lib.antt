@@ -2,5 +2,4 @@
 pub mod Signs
 pub mod Sums
 pub mod Products
-pub mod Numbers
 pub mod Ranges

@@ -25,7 +25,7 @@ use Rattle.fe_kernel.specs.Divisor.{defaultDivisor, divisorOf}
 use Rattle.fe_kernel.specs.Convolution.{matrixWith, matrixOf, convolveWith, convolveOf, convolveMatrixOf}
 use Rattle.fe_kernel.specs.Ranges.{MatrixOk, ConvolveMatrixOk}
 use Rattle.fe_kernel.proofs.Sums.{divisor-num}
-use Rattle.fe_kernel.proofs.Numbers.{ListFinite, list-finite, number-or-finite, number-or-num}
+use Rattle.fe.proofs.Numbers.{ListFinite, list-finite, number-or-finite, number-or-num}
 
 -- ---- the target is inside
 

@@ -8,14 +8,12 @@ use Rattle.num.specs.Whole.{rounded}
 use Rattle.names.specs.Ids.{AId·Divisor}
 use Rattle.svgtree.specs.Values.{Node}
 use Rattle.fe.specs.Attributes.{numberOr}
+pub use Rattle.fe.specs.Attributes.{one}
 
 -- a total and the numbers of a list, "left to right", each sum rounded once
 unfoldable pub sumFrom : Float → List Float → Float
 sumFrom total [] = total
 sumFrom total (x ∷ xs) = sumFrom (add binary32 total x) xs
-
-abbrev pub one : Float
-one = ofBits binary32 0x3f80_0000
 
 abbrev pub million : Float
 million = ofBits binary32 0x4974_2400

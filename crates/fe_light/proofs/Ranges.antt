@@ -21,7 +21,7 @@ use Rattle.fe_light.specs.declared.MaybeLight.the-variants as light
 use Rattle.fe_light.specs.declared.MaybeSpecularLighting.the-variants as specular
 use Rattle.fe_light.specs.Lights.{one, distantLightOf, pointLightOf, spotExponentOf, optionOf, spotLightOf, lightOf, orLater, lightSourceOf}
 use Rattle.fe_light.specs.Lighting.{lightingColorOf, diffuseWith, diffuseLightingOf, exponentInRange, specularWith, specularLightingOf}
-use Rattle.fe_light.proofs.Numbers.{number-or-finite}
+use Rattle.fe.proofs.Numbers.{number-or-finite}
 use Rattle.fe_light.specs.Ranges.{AllFinite, optionNumbers, LightRange, LightOk, DiffuseOk, SpecularOk}
 
 -- ---- numbers of a node

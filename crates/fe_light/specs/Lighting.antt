@@ -27,10 +27,6 @@ black = record { red = 0; green = 0; blue = 0 }
 abbrev pub white : Color
 white = record { red = 255; green = 255; blue = 255 }
 
--- "a transparent black flood" stands for a lighting element that cannot be drawn
-abbrev pub dummyPrimitive : Flood
-dummyPrimitive = record { color = black; opacity = plusZero }
-
 -- a colour without its alpha, or a default where it is absent
 abbrev pub opaqueOr : MaybeColor → Color → Color
 opaqueOr (maybe-color.Is c) d = record { red = c .red; green = c .green; blue = c .blue }

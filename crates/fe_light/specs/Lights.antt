@@ -19,9 +19,7 @@ use Rattle.tree.specs.declared.SpotLight.{SpotLight as SpotLightFields}
 use Rattle.tree.specs.declared.LightSource.the-variants.{DistantLight, PointLight, SpotLight}
 use Rattle.fe_light.specs.declared.MaybeLight.{MaybeLight}
 use Rattle.fe_light.specs.declared.MaybeLight.the-variants.{Is, No}
-
-abbrev pub one : Float
-one = ofBits binary32 0x3f80_0000
+pub use Rattle.fe.specs.Attributes.{one}
 
 -- feDistantLight: the direction of the light as two angles, each 0 where it is absent
 abbrev pub distantLightOf : Node → DistantLightFields

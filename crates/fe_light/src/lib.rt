@@ -4,7 +4,7 @@ ghost use mathlib.Core.Path.{_≡_};
 ghost use Prim.Native.Nat.{_+_, _<_};
 ghost use Rattle.svgtree.specs.Parse.{nodeFrom, nodesFrom};
 ghost use Rattle.fe_light.specs.Lights.{distantLightOf, pointLightOf, spotExponentOf, optionOf, spotLightOf, lightOf, lightSourceOf};
-ghost use Rattle.fe_light.specs.Lighting.{dummyPrimitive, opaqueOr, lightingColorOf, diffuseWith, diffuseLightingOf, exponentInRange, specularWith, specularLightingOf};
+ghost use Rattle.fe_light.specs.Lighting.{opaqueOr, lightingColorOf, diffuseWith, diffuseLightingOf, exponentInRange, specularWith, specularLightingOf};
 use fe::is_word;
 use fe::number_or;
 use names::aid;
@@ -20,7 +20,6 @@ use svgtree::text_of;
 use tree::Color;
 use tree::DiffuseLighting;
 use tree::DistantLight;
-use tree::Flood;
 use tree::LightSource;
 use tree::OptionF32;
 use tree::PointLight;
@@ -43,20 +42,6 @@ pub enum MaybeDiffuseLighting {
 pub enum MaybeSpecularLighting {
     Is(SpecularLighting),
     No,
-}
-
-// The flood that stands for an element that cannot be drawn: transparent black.
-pub fn create_dummy_primitive() -> Flood
-    ensures { λ r. ⌜ r ≡ dummyPrimitive ⌝ }
-{
-    Flood {
-        color: Color {
-            red: 0,
-            green: 0,
-            blue: 0,
-        },
-        opacity: 0.0,
-    }
 }
 
 fn distant_light(s: &[u8], at: u16) -> DistantLight

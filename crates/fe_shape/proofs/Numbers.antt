@@ -1,4 +1,4 @@
--- Numbers that are read from a node are finite; so is half the sum of a box's sides where the sum is. Assumes nothing.
+-- Half the sum of a box's sides is finite where the sum is, and what is finite and not negative is positive. Assumes nothing.
 use Prim.Native.Nat.{ℕ, zero, suc, _+_, _*_, _%_, _^_, _≤_, _<_}
 use native.Mathlib.Nat.{zero-lt-suc, le-of-lt, zero-mul, mul-one, mul-assoc}
 use native.Mathlib.Omega.{arith}
@@ -13,24 +13,7 @@ use lib.Ieee.Order.{round-mono, le-of-values}
 use Rattle.num.specs.Narrowed.{plusZero}
 use Rattle.num.specs.Sign.{positive}
 use Rattle.num.proofs.Laws.{plus, round-plus}
-use Rattle.num.proofs.Finite.{orZero-finite}
-use Rattle.svgtree.specs.Values.{Node, Value, absent, textValue, numberValue, numbersValue, lengthValue, colorValue, triesValue}
-use Rattle.svgtree.specs.Readers.{numberIn, lookup}
-use Rattle.fe.specs.Attributes.{orElse, numberOr}
 use Rattle.fe_shape.specs.Displacements.{two}
-
-or-else-finite : (v : Value) (d : Float) → T (finite d) → T (finite (orElse (numberIn v) d))
-unfolding numberIn
-or-else-finite absent d h = h
-or-else-finite (textValue t) d h = h
-or-else-finite (numberValue x) d h = orZero-finite x
-or-else-finite (numbersValue xs) d h = h
-or-else-finite (lengthValue u x) d h = h
-or-else-finite (colorValue k) d h = h
-or-else-finite (triesValue t) d h = h
-
-pub number-or-finite : (n : Node) (id : ℕ) (d : Float) → T (finite d) → T (finite (numberOr n id d))
-number-or-finite n id d h = or-else-finite (lookup id (n .attributes)) d h
 
 -- a sum of two numbers that are not negative is not negative
 pub add-plus : (x y : Float) → T (finite x) → T (finite y) → T (plus x) → T (plus y) → T (plus (add binary32 x y))

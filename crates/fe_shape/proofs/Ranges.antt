@@ -25,7 +25,8 @@ use Rattle.fe_shape.specs.Morphologies.{operatorOf, onesForZeros, unitRa
 use Rattle.fe_shape.specs.Displacements.{two, boxSum, displacementWith, displacementMapOf}
 use Rattle.fe_shape.specs.Turbulences.{frequencyOf, turbulenceWith, turbulenceOf}
 use Rattle.fe_shape.specs.Ranges.{MorphologyOk, DisplacementMapOk, TurbulenceOk}
-use Rattle.fe_shape.proofs.Numbers.{number-or-finite, add-plus, half-finite, plus-positive}
+use Rattle.fe.proofs.Numbers.{number-or-finite}
+use Rattle.fe_shape.proofs.Numbers.{add-plus, half-finite, plus-positive}
 
 -- ---- pairs of positive numbers
 abbrev Positive : MaybePair → Type 0

@@ -18,9 +18,7 @@ use Rattle.tree.specs.declared.DisplacementMap.{DisplacementMap}
 use Rattle.fe.specs.Attributes.{numberOr, isWord}
 use Rattle.fe_shape.specs.declared.MaybeDisplacementMap.{MaybeDisplacementMap}
 use Rattle.fe_shape.specs.declared.MaybeDisplacementMap.the-variants.{Is, BoxNotFinite}
-
-abbrev pub two : Float
-two = ofBits binary32 0x4000_0000
+pub use Rattle.fe.specs.Attributes.{two}
 
 -- every other text, and none, is A
 unfoldable pub channelOf : Option (List ℕ) → ColorChannel

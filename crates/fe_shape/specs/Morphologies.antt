@@ -20,9 +20,7 @@ use Rattle.fe_shape.specs.declared.MaybePair.the-variants as maybe-pair
 use Rattle.fe_shape.specs.declared.MaybeMorphology.{MaybeMorphology}
 use Rattle.fe_shape.specs.declared.MaybeMorphology.the-variants.{Is, RadiusNotFinite}
 use Rattle.fe_shape.specs.Pairs.{both, pairIn, signsClear, ifPositive}
-
-abbrev pub one : Float
-one = ofBits binary32 0x3f80_0000
+pub use Rattle.fe.specs.Attributes.{one}
 
 -- "dilate", and every other text, and none, is erode
 abbrev pub operatorOf : Node → MorphologyOperator

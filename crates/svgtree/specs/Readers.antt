@@ -10,7 +10,6 @@ use Rattle.num.specs.Narrowed.{narrowed, orZero}
 use Rattle.geom.specs.Geometry.{ofSize}
 use Rattle.geom.specs.declared.MaybeRect.{MaybeRect}
 use Rattle.geom.specs.declared.MaybeRect.the-variants as rect
-use Rattle.svgtree.specs.declared.Length.{Length}
 use Rattle.svgtree.specs.declared.MaybeNumber.{MaybeNumber}
 use Rattle.svgtree.specs.declared.MaybeNumber.the-variants as maybe-number
 use Rattle.svgtree.specs.declared.MaybeLength.{MaybeLength}

@@ -3,8 +3,7 @@
 ghost use mathlib.Core.Path.{_≡_};
 ghost use mathlib.Core.List.{map};
 ghost use mathlib.Core.Option.{some};
-ghost use Prim.Native.Nat.{_+_, _*_, _^_, _<_, _≤_, min};
-ghost use lib.ListN.{getD};
+ghost use Prim.Native.Nat.{_^_, _<_, min};
 ghost use Rattle.bits.specs.Texts.{maybeTextIs};
 ghost use Rattle.svgtree.specs.Readers.{lengthIn, lookup, textOf, numberOf, numbersOf, lengthOf, colorOf, triesOf, fontSizeOf, boxOf, viewBoxWidthOf, viewBoxHeightOf, dpiOf, filterFontSizeOf, filterXOf, filterYOf, filterWidthOf, filterHeightOf};
 ghost use Rattle.svgtree.specs.Parse.{unitOf, lengthAt, colorAt, tryAt, triedAt, attributeAt, placesFrom, nodeFrom, countOf, offsetOf, unitsOf, headerLength, headerOf};

@@ -1,35 +1,26 @@
-use Prim.Native.Nat.{_*_}
+-- What `find` gives is the attribute's value, and a list of numbers is of kind 3. Assumes nothing.
 use Rattle.svgtree.proofs.ByKind.{numbers-no, numbers-yes}
 use Rattle.svgtree.specs.Readers.{numbersIn}
 use mathlib.Core.Path.{sym}
 use borrow.Author.Needs.{needs}
 use Rattle.svgtree.proofs.numbers_of.Statement.{statement}
 use Rattle.svgtree.proofs.numbers_of.Tie as tie
-use Rattle.svgtree.proofs.numbers_of.Reads as reads
-use Rattle.svgtree.proofs.numbers_of.Lts as lts
-use Rattle.svgtree.proofs.find.Reads as find-reads
 
--- src/lib.rt:230:9
 find-requires : tie.Need-find-requires
 find-requires c κs = search needs
 
--- src/lib.rt:232:21
 enum-known-f : tie.Need-enum-known-f
 enum-known-f c = search needs
 
--- src/lib.rt:239:26
 enum-told : tie.Need-enum-told
 enum-told c = search needs
 
--- src/lib.rt:227:1
 returns : tie.Need-returns
 returns c = rw (← c .before .before .before .before .find .ensures, c .before .before .f .given .1, numbers-yes _ _ _ _ (c .if1 .taken))
 
--- src/lib.rt:227:1
 returns-2 : tie.Need-returns-2
 returns-2 c = rw (← c .before .before .before .before .find .ensures, c .before .before .f .given .1) (sym (numbers-no _ _ _ _ (c .if1 .left)))
 
--- src/lib.rt:227:1
 returns-3 : tie.Need-returns-3
 unfolding numbersIn
 returns-3 c = rw (← c .before .before .find .ensures, c .enum-told .given .1)
