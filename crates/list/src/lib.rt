@@ -593,7 +593,7 @@ fn put_kind(s: &[u8], f: FilterResults, n: u16, kind: Kind, out: &mut [u8], at: 
 
 pub fn primitive_size(s: &[u8], f: FilterResults, n: u16, name: ResultName, child: Child) -> u32
     requires { ⌜ (n ≤ 512) × (mergeEnd (child .kind) ≤ 512) ⌝ }
-    ensures { λ r. ⌜ (r ≡ length (primitiveBytes (primitiveAt (now (s .entry)) f n name child))) × (r < 2 ^ 23) ⌝ }
+    ensures { λ r. ⌜ (r ≡ length (primitiveBytes (primitiveAt (now (s .entry)) f n name child))) × (r < 2 ^ 22 + 2 ^ 9) ⌝ }
 {
     let kind = child.kind;
     17 + name_size(name) + kind_size(s, f, n, kind)

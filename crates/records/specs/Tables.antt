@@ -1,5 +1,5 @@
 -- What a table of nodes and a table of names stand for, record by record. Definitions only.
-use Prim.Native.Nat.{ℕ, zero, suc, _<_}
+use Prim.Native.Nat.{ℕ, zero, suc, _*_, _≤_, _<_}
 use mathlib.Core.Path.{_≡_}
 use mathlib.Core.List.{List, [], _∷_, _++_}
 use mathlib.Core.Option.{none}
@@ -69,7 +69,9 @@ unfoldable pub sizesUpTo : Frame → List ℕ → List ℕ → FilterResults →
 sizesUpTo frame s nodes f zero = []
 sizesUpTo frame s nodes f (suc j) = sizesUpTo frame s nodes f j ++ (length (primitiveBytes (recordAt frame s f (getD nodes j 0) j)) ∷ [])
 
--- what is said of a table of sizes: its first entries are the sizes of the first records, and the total is the length of their bytes
+-- what is said of a table of sizes: its first entries are the sizes of the first records, and the total is the length of their bytes, which is small
+-- enough for offsets of 32 bits behind the list's head
 pub record Measures (frame : Frame) (s nodes : List ℕ) (f : FilterResults) (n : ℕ) (r : Sizes) : Type 0 where
   pub sizes : take n (r .sizes) ≡ sizesUpTo frame s nodes f n
   pub total : r .total ≡ length (recordsUpTo frame s nodes f n)
+  pub small : r .total ≤ 4194816 * n

@@ -11,7 +11,7 @@ use Rattle.records.proofs.record_sizes.Statement.{statement}
 use Rattle.records.proofs.record_sizes.Tie as tie
 
 abbrev Inv-loop : tie.InvT-loop
-Inv-loop s frame nodes records f sizes₀ total₀ j₀ sizes total j = (j ≤ records) × (length sizes ≡ 512) × (total ≤ 8388607 * j) × (take j sizes ≡ sizesUpTo frame s nodes f j) × (total ≡ length (recordsUpTo frame s nodes f j))
+Inv-loop s frame nodes records f sizes₀ total₀ j₀ sizes total j = (j ≤ records) × (length sizes ≡ 512) × (total ≤ 4194816 * j) × (take j sizes ≡ sizesUpTo frame s nodes f j) × (total ≡ length (recordsUpTo frame s nodes f j))
 
 abbrev μ-loop : tie.MeasureT-loop
 μ-loop s frame nodes records f sizes₀ total₀ j₀ sizes total j = records - j
@@ -72,7 +72,7 @@ returns c =
     let a = c .before .before .before .args in
     let l = c .before .loop in
     let e : l .j ≡ a .records = omega arith in
-    record { sizes = rw (← e) (l .inv .3); total = rw (← e) (l .inv .4) }
+    record { sizes = rw (← e) (l .inv .3); total = rw (← e) (l .inv .4); small = rw (← e) (l .inv .2) }
 
 pub record-sizes-spec : {M : Type 1} → statement M
 record-sizes-spec =

@@ -1,0 +1,5 @@
+pub mod KindNumbers
+pub mod Sound
+pub mod Collecting
+pub mod Lists
+pub mod Calls
