@@ -1,4 +1,3 @@
 pub mod Elements
 pub mod Chain
 pub mod Means
-pub mod Cases

@@ -2,7 +2,6 @@ pub mod Words
 pub mod Naming
 pub mod Made
 pub mod Claim
-pub mod Examples
 pub mod Spelling
 pub mod Tables
 pub mod Sizes

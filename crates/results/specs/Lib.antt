@@ -1,5 +1,4 @@
 pub mod Names
 pub mod Inputs
 pub mod Agreement
-pub mod Cases
 pub mod Means

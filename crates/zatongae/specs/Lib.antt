@@ -1,3 +1,4 @@
 pub mod Numbers
 pub mod Call
+pub mod Cases
 pub mod Plans
