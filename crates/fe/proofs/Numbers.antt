@@ -12,7 +12,8 @@ use Rattle.num.proofs.Laws.{Num, finite-num}
 use Rattle.num.proofs.Finite.{zero-finite, orZero-finite}
 use Rattle.svgtree.specs.Values.{Node, Value, absent, textValue, numberValue, numbersValue, lengthValue, colorValue, triesValue}
 use Rattle.svgtree.specs.Readers.{numberIn, numbersIn, lookup}
-use Rattle.fe.specs.Attributes.{orElse, numberOr}
+use Rattle.fe.specs.Attributes.{numberOr}
+use Rattle.svgtree.specs.Readers.{orElse}
 
 -- what holds of the default and of every finite number holds of the number read
 module _ (P : Float → Type 0) (finite-is : (x : Float) → T (finite x) → P x) where

@@ -5,15 +5,8 @@ use mathlib.Core.List.{List}
 use mathlib.Core.Option.{Option, none, some}
 use lib.Ieee.{Float, binary32, ofBits}
 use Rattle.bits.specs.Bytes.{same}
-use Rattle.svgtree.specs.declared.MaybeNumber.{MaybeNumber}
-use Rattle.svgtree.specs.declared.MaybeNumber.the-variants.{Is, No}
 use Rattle.svgtree.specs.Values.{Node}
-use Rattle.svgtree.specs.Readers.{numberOf}
-
--- a number, or what stands for it where it is absent
-abbrev pub orElse : MaybeNumber → Float → Float
-orElse (Is x) d = x
-orElse No d = d
+use Rattle.svgtree.specs.Readers.{numberOf, orElse}
 
 -- a node's number by its id, or the default
 abbrev pub numberOr : Node → ℕ → Float → Float

@@ -2,7 +2,8 @@
 ghost use mathlib.Core.Path.{_≡_};
 ghost use Rattle.bits.specs.Texts.{maybeTextIs};
 ghost use Rattle.svgtree.specs.Parse.{nodeFrom};
-ghost use Rattle.fe.specs.Attributes.{orElse, numberOr, isWord};
+ghost use Rattle.fe.specs.Attributes.{numberOr, isWord};
+ghost use Rattle.svgtree.specs.Readers.{orElse};
 use bits::MaybeText;
 use bits::text_is;
 use svgtree::MaybeNumber;

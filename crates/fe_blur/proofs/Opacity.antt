@@ -12,10 +12,9 @@ use lib.Ieee.Scale.{finite}
 use lib.Ieee.Fits.{and-i, and-l, and-r, down-pos}
 use lib.Ieee.Order.{round-mono}
 use Rattle.num.specs.Narrowed.{plusZero}
-use Rattle.num.specs.Sign.{signNegative}
+use Rattle.num.specs.Sign.{signNegative, opacityIn}
 use Rattle.num.proofs.Laws.{Num, finite-num, plus, round-plus}
 use Rattle.fe_blur.specs.Floods.{one, alphaOpacity}
-use Rattle.fe_blur.specs.Ranges.{opacityOk}
 
 -- the order of two numbers that are not negative, as one of fractions
 at-most : (a b : ℕ) → T (ltb a b || (eqb a b && true)) → a ≤ b
@@ -36,7 +35,8 @@ plus-sign (inf s) h = h
 plus-sign (fin s m e) h = h
 
 -- a fraction from 0 to 1, rounded
-rounded-ok : (a c : ℕ) → 0 < c → a ≤ c → T (opacityOk (round binary32 false a c))
+rounded-ok : (a c : ℕ) → 0 < c → a ≤ c → T (opacityIn (round binary32 false a c))
+unfolding opacityIn
 rounded-ok a c C h =
     let x = round binary32 false a c in
     let z : 0 * c ≤ a * 1 = omega arith in
@@ -46,28 +46,28 @@ rounded-ok a c C h =
     and-i (le plusZero x && le x one) (not (signNegative x)) (and-i (le plusZero x) (le x one) low high) (plus-sign x (round-plus binary32 a c))
 
 -- an opacity is a fraction from 0 to 1
-fraction : (m : ℕ) (e : ℤ) → T (opacityOk (fin false m e)) → m * up e ≤ down e
-unfolding le ofBits
+fraction : (m : ℕ) (e : ℤ) → T (opacityIn (fin false m e)) → m * up e ≤ down e
+unfolding opacityIn le ofBits
 fraction m e h =
     let x = fin false m e in
     let k : m * up e * 1 ≤ 1 * 1 * down e = at-most (m * up e * 1) (1 * 1 * down e) (and-r (le plusZero x) (le x one) (and-l (le plusZero x && le x one) true h)) in
     omega arith
 
-not-ok : (x : Float) → T (opacityOk x) → T (not (signNegative x)) × T (finite x)
-unfolding le ofBits
+not-ok : (x : Float) → T (opacityIn x) → T (not (signNegative x)) × T (finite x)
+unfolding opacityIn le ofBits
 not-ok nan h = absurd h
 not-ok (inf true) h = absurd h
 not-ok (inf false) h = absurd h
 not-ok (fin true m e) h = absurd (and-r (le plusZero (fin true m e) && le (fin true m e) one) false h)
 not-ok (fin false m e) h = (tt, tt)
 
-pub opacity-num : (x : Float) → T (opacityOk x) → Num x
+pub opacity-num : (x : Float) → T (opacityIn x) → Num x
 opacity-num x h = finite-num x (not-ok x h .1)
 
 product : (a b c d : ℕ) → a ≤ c → b ≤ d → a * b ≤ c * d
 product a b c d h k = le-trans (mul-le-mul-right b h) (mul-le-mul-left c k)
 
-pub mul-ok : (x y : Float) → T (opacityOk x) → T (opacityOk y) → T (opacityOk (mul binary32 x y))
+pub mul-ok : (x y : Float) → T (opacityIn x) → T (opacityIn y) → T (opacityIn (mul binary32 x y))
 unfolding mul
 mul-ok nan y h k = absurd (not-ok nan h .1)
 mul-ok (inf s) y h k = absurd (not-ok (inf s) h .1)
@@ -87,7 +87,7 @@ full-is : round binary32 false 255 1 ≡ full
 unfolding round ofBits
 full-is = refl
 
-div-ok : (x : Float) → T (plus x) → T (le x full) → T (opacityOk (div binary32 x full))
+div-ok : (x : Float) → T (plus x) → T (le x full) → T (opacityIn (div binary32 x full))
 unfolding div le ofBits
 div-ok nan p h = absurd p
 div-ok (inf true) p h = absurd p
@@ -98,7 +98,7 @@ div-ok (fin false m e) p h =
     let D : 0 < 255 * 1 * down e = let d : 0 < down e = down-pos e in omega arith in
     rounded-ok (m * up e * 1) (255 * 1 * down e) D k
 
-pub alpha-ok : (alpha : ℕ) → T (leb alpha 255) → T (opacityOk (alphaOpacity alpha))
+pub alpha-ok : (alpha : ℕ) → T (leb alpha 255) → T (opacityIn (alphaOpacity alpha))
 unfolding alphaOpacity ofInt
 alpha-ok alpha h =
     let a : alpha ≤ 255 = leb→le alpha 255 h in

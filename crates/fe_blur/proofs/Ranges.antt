@@ -4,7 +4,7 @@ use lib.Ieee.{Float, binary32, ofBits, mul, le}
 use lib.Ieee.Scale.{finite}
 use Rattle.names.specs.Ids.{AId·StdDeviation, AId·FloodOpacity, AId·Dx, AId·Dy}
 use Rattle.num.specs.Narrowed.{plusZero}
-use Rattle.num.specs.Sign.{positive}
+use Rattle.num.specs.Sign.{positive, opacityIn}
 use Rattle.num.proofs.Finite.{zero-finite}
 use Rattle.geom.specs.declared.Size.{Size}
 use Rattle.svgtree.specs.Values.{Node}
@@ -13,7 +13,7 @@ use Rattle.fe.specs.Attributes.{numberOr}
 use Rattle.fe_blur.specs.Deviations.{deviation, numbersOrDefault, gaussianBlurOf}
 use Rattle.fe_blur.specs.Floods.{one, floodColor, alphaOpacity, floodOf, transparentBlack}
 use Rattle.fe_blur.specs.Offsets.{two, offsetFieldsOf, dropShadowOf}
-use Rattle.fe_blur.specs.Ranges.{opacityOk, GaussianBlurRange, FloodRange, OffsetRange, DropShadowRange}
+use Rattle.fe_blur.specs.Ranges.{GaussianBlurRange, FloodRange, OffsetRange, DropShadowRange}
 use Rattle.fe_blur.proofs.Numbers.{scaled-num, made-positive}
 use Rattle.fe_blur.proofs.Opacity.{mul-ok, alpha-ok}
 
@@ -27,7 +27,7 @@ gaussian-blur-range n scale =
     record { deviation-x = deviation-positive (p .x) (scale .width); deviation-y = deviation-positive (p .y) (scale .height) }
 
 -- a colour's alpha is a byte, and a sheet whose flood-opacity is out of range is refused
-module _ (n : Node) (alpha : T (leb (floodColor n .alpha) 255)) (given : T (opacityOk (numberOr n AId·FloodOpacity one))) where
+module _ (n : Node) (alpha : T (leb (floodColor n .alpha) 255)) (given : T (opacityIn (numberOr n AId·FloodOpacity one))) where
   pub flood-range : FloodRange (floodOf n)
   flood-range = record { opacity = mul-ok (alphaOpacity (floodColor n .alpha)) (numberOr n AId·FloodOpacity one) (alpha-ok (floodColor n .alpha) alpha) given }
 
@@ -43,7 +43,7 @@ module _ (n : Node) (scale : Size) (width : T (finite (scale .width))) (height :
         dy = scaled-num n AId·Dy plusZero (scale .height) zero-finite height;
       }
 
-  pub drop-shadow-range : T (leb (floodColor n .alpha) 255) → T (opacityOk (numberOr n AId·FloodOpacity one)) → DropShadowRange (dropShadowOf n scale)
+  pub drop-shadow-range : T (leb (floodColor n .alpha) 255) → T (opacityIn (numberOr n AId·FloodOpacity one)) → DropShadowRange (dropShadowOf n scale)
   drop-shadow-range alpha given =
       let p = numbersOrDefault (triesOf n AId·StdDeviation) two in
       record {
@@ -55,5 +55,5 @@ module _ (n : Node) (scale : Size) (width : T (finite (scale .width))) (height :
       }
 
 pub transparent-black-range : FloodRange transparentBlack
-unfolding ofBits le
+unfolding opacityIn ofBits le
 transparent-black-range = record { opacity = tt }

@@ -22,7 +22,8 @@ use Rattle.tree.specs.Means.{identityMatrix}
 use Rattle.tree.specs.declared.CompositeOperator.{CompositeOperator}
 use Rattle.tree.specs.declared.CompositeOperator.the-variants.{Over}
 use Rattle.names.specs.Ids.{AId·Type, AId·Values, AId·TableValues, AId·Slope, AId·Intercept, AId·Amplitude, AId·Exponent, AId·Offset, AId·Operator, AId·K1, AId·K2, AId·K3, AId·K4, EId·FeFuncR, EId·FeFuncG, EId·FeFuncB, EId·FeFuncA}
-use Rattle.fe.specs.Attributes.{isWord, orElse, numberOr}
+use Rattle.fe.specs.Attributes.{isWord, numberOr}
+use Rattle.svgtree.specs.Readers.{orElse}
 use Rattle.fe_color.specs.Keywords.{Keyword, _means_, keyword}
 use Rattle.fe_color.specs.Numbers.{zero, one, firstOr}
 use Rattle.fe_color.specs.ColorMatrix.{saturateOf, hueRotateOf, matrixOf, colorMatrixKindOf}

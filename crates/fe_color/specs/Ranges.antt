@@ -1,9 +1,10 @@
 -- What is to hold of the numbers of these kinds: that none is NaN, and the ranges. Definitions only.
 use mathlib.Core.Path.{_≡_}
+use mathlib.Core.Bool.{not}
 use mathlib.Core.List.{List, [], _∷_, _++_}
 use lib.Dec.{T}
 use lib.ListN.{length}
-use lib.Ieee.{Float, le}
+use lib.Ieee.{Float, isNan, le}
 use Rattle.tree.specs.Kinds.{ColorMatrixKind, Matrix, Saturate, HueRotate, LuminanceToAlpha, TransferFunction, Identity, Table, Discrete, Linear, Gamma, ComponentTransferFields}
 use Rattle.tree.specs.declared.CompositeOperator.{CompositeOperator}
 use Rattle.tree.specs.declared.CompositeOperator.the-variants.{Over, In, Out, Atop, Xor, Lighter, Arithmetic}
@@ -13,6 +14,10 @@ use Rattle.fe_color.specs.Numbers.{zero, one}
 abbrev pub Each : (Float → Type 0) → List Float → Type 0
 Each P [] = Unit {0}
 Each P (x ∷ xs) = P x × Each P xs
+
+-- no NaN; an infinity is a number
+abbrev pub IsNumber : Float → Type 0
+IsNumber x = T (not (isNan x))
 
 -- the numbers of a value, in the order of its fields
 

@@ -41,7 +41,7 @@ fn is_zero(s: &[u8], from: usize, n: u8) -> bool
 }
 
 // A mark, and the n bytes that are zero where it says absent.
-fn marked_ok(s: &[u8], mark: u8, from: usize, n: u8) -> bool
+pub fn marked_ok(s: &[u8], mark: u8, from: usize, n: u8) -> bool
     requires { ⌜ from < 2 ^ 40 ⌝ }
     ensures { λ r. ⌜ r ≡ markedOk mark (bytesFrom (now (s .entry)) from n) ⌝ }
 {

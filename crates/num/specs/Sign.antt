@@ -1,7 +1,7 @@
--- Sign, near zero and bounds of an f32. Definitions only.
-use mathlib.Core.Bool.{Bool, false, _&&_, _||_, cond}
+-- Sign, near zero, opacities and bounds of an f32. Definitions only.
+use mathlib.Core.Bool.{Bool, false, not, _&&_, _||_, cond}
 use lib.Dec.{leb, eqb}
-use lib.Ieee.{Float, nan, inf, fin, binary32, lt, le, toBits}
+use lib.Ieee.{Float, nan, inf, fin, binary32, lt, le, ofBits, toBits}
 use lib.Ieee.Scale.{finite}
 use Rattle.num.specs.Narrowed.{plusZero}
 
@@ -14,6 +14,14 @@ abbrev pub signNegative : Float → Bool
 signNegative nan = false
 signNegative (inf s) = s
 signNegative (fin s m e) = s
+
+-- 1
+abbrev pub plusOne : Float
+plusOne = ofBits binary32 0x3f80_0000
+
+-- "opacity 0 to 1". A sheet with "flood-opacity outside 0..1 or −0" is refused, so −0 is left out
+unfoldable pub opacityIn : Float → Bool
+opacityIn x = le plusZero x && le x plusOne && not (signNegative x)
 
 -- `approx_zero_ulps(4)`: +0, -0 and the patterns 1 to 4, but no number below zero
 abbrev pub nearZero : Float → Bool

@@ -14,11 +14,11 @@ use Rattle.kinds.specs.Child as value
 use Rattle.kinds.specs.Means.{childIs}
 use Rattle.kinds.specs.declared.Child.{Child}
 use Rattle.units.specs.declared.Frame.{Frame}
-use Rattle.results.specs.Names.{Label, Results, start, nameOf, label, after, afterAll, resultsOf, labels}
-use Rattle.results.specs.Inputs.{resolve}
+use Rattle.naming.specs.Names.{Label, Results, start, nameOf, label, after, afterAll, resultsOf, labels}
+use Rattle.naming.specs.Inputs.{resolve}
 use Rattle.results.specs.Means.{Named, labelIs, labelsIs}
 use Rattle.results.specs.declared.FilterResults.{FilterResults}
-use Rattle.results.proofs.Claim.{map-snoc}
+use Rattle.naming.proofs.Claim.{map-snoc}
 use Rattle.results.proofs.Tables.{name-at, named-first, named-at}
 use Rattle.list.specs.Primitives.{primitiveOf, primitivesFrom, primitives, ownsOf}
 use Rattle.list.specs.Tables.{primitiveAt}

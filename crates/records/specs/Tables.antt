@@ -12,7 +12,7 @@ use Rattle.kinds.specs.Child.{Child}
 use Rattle.units.specs.declared.Frame.{Frame}
 use Rattle.filter.specs.Chain.{Step, pass, end, six, seven, count}
 use Rattle.filter.specs.Means.{stepAt}
-use Rattle.results.specs.Inputs.{resolve}
+use Rattle.naming.specs.Inputs.{resolve}
 use Rattle.results.specs.Means.{nameIs, namesIs}
 use Rattle.results.specs.declared.Entry.{Entry}
 use Rattle.results.specs.declared.ResultName.{ResultName}

@@ -24,7 +24,8 @@ use Rattle.units.proofs.Lengths.{FiniteState, AllSingle, try-single, zero-one}
 use Rattle.units.proofs.Regions.{SoundFrame}
 use Rattle.region.specs.declared.Subregion.{Subregion}
 use Rattle.region.specs.declared.Subregion.the-variants as subregion
-use Rattle.region.specs.Subregions.{one, orElse, valueOr, childRect, orEnds, orUnplaced, userSpaceRegion, floodIn, childIn, bboxRegion, byUnits, regionOf, unscaled, sizeIn, scaleIn, scaleOf}
+use Rattle.svgtree.specs.Readers.{orElse}
+use Rattle.region.specs.Subregions.{one, valueOr, childRect, orEnds, orUnplaced, userSpaceRegion, floodIn, childIn, bboxRegion, byUnits, regionOf, unscaled, sizeIn, scaleIn, scaleOf}
 
 -- ---- what holds of the child's rectangle in user space and of everything that is placed holds of the subregion
 module _ (P : Rect → Type 0) (placing : (r c q : Rect) → placed r c ≡ rect.Is q → P q) where

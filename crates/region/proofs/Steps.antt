@@ -21,7 +21,8 @@ use Rattle.units.specs.declared.Frame.{Frame}
 use Rattle.units.specs.Lengths.{tryConvertLength}
 use Rattle.region.specs.declared.Subregion.{Subregion}
 use Rattle.region.specs.declared.Subregion.the-variants as subregion
-use Rattle.region.specs.Subregions.{one, orElse, valueOr, childRect, orEnds, orUnplaced, userSpaceRegion, floodIn, childIn, bboxRegion, byUnits, regionOf, unscaled, sizeIn, scaleIn, scaleOf}
+use Rattle.svgtree.specs.Readers.{orElse}
+use Rattle.region.specs.Subregions.{one, valueOr, childRect, orEnds, orUnplaced, userSpaceRegion, floodIn, childIn, bboxRegion, byUnits, regionOf, unscaled, sizeIn, scaleIn, scaleOf}
 
 module _ (f : Frame) (n : Node) where
   -- ---- an attribute

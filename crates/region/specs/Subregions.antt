@@ -11,8 +11,7 @@ use Rattle.geom.specs.declared.MaybeRect.the-variants as rect
 use Rattle.geom.specs.Geometry.{ofSize, placed, widthOf, heightOf, sizeOf}
 use Rattle.names.specs.Ids.{AId·X, AId·Y, AId·Width, AId·Height, EId·FeFlood}
 use Rattle.svgtree.specs.Values.{Node}
-use Rattle.svgtree.specs.declared.MaybeNumber.{MaybeNumber}
-use Rattle.svgtree.specs.declared.MaybeNumber.the-variants as maybe-number
+use Rattle.svgtree.specs.Readers.{orElse}
 use Rattle.units.specs.declared.Units.{Units}
 use Rattle.units.specs.declared.Units.the-variants as units
 use Rattle.units.specs.declared.Frame.{Frame}
@@ -25,10 +24,6 @@ abbrev pub one : Float
 one = ofBits binary32 0x3f80_0000
 
 -- ---- the child's rectangle
-
-abbrev pub orElse : MaybeNumber → Float → Float
-orElse (maybe-number.Is x) def = x
-orElse maybe-number.No def = def
 
 -- an attribute of the child as a number in primitiveUnits, or this default where it is absent
 abbrev pub valueOr : Frame → Node → (aid : ℕ) → (def : Float) → Float

@@ -12,10 +12,10 @@ use lib.Seq.{drop-cons, drop-set-lt, getD-set-same, take-all}
 use Rattle.bits.specs.Bytes.{bytesFrom, same}
 use Rattle.bits.proofs.Runs.{length-bytesFrom, bytesFrom-part}
 use Rattle.bits.proofs.Sameness.{same-run-length}
-use Rattle.results.specs.Names.{w-result, digits, digitsUpTo, madeName}
+use Rattle.naming.specs.Names.{w-result, digits, digitsUpTo, madeName}
 use Rattle.results.specs.declared.Digits.{Digits}
 use Rattle.results.specs.Means.{DigitsOf}
-use Rattle.results.proofs.Words.{same-append}
+use Rattle.naming.proofs.Words.{same-append}
 
 digits-fuel : (f g n : ℕ) → n ≤ f → n ≤ g → digitsUpTo f n ≡ digitsUpTo g n
 unfolding digitsUpTo

@@ -13,18 +13,18 @@ use Rattle.bits.specs.Texts.{textIs}
 use Rattle.bits.specs.declared.Text.{Text}
 use Rattle.tree.specs.Input as tree
 use Rattle.tree.specs.Input.{Name}
-use Rattle.results.specs.Names.{member, madeName, free, Label, Own, Made, nameOf, ownNames, Results, start, nextFree, label, counted, after, afterAll, resultsOf, labels}
-use Rattle.results.specs.Inputs.{previous, lastOf}
-use Rattle.results.specs.Agreement.{isOwn}
+use Rattle.naming.specs.Names.{member, madeName, free, Label, Own, Made, nameOf, ownNames, Results, start, nextFree, label, counted, after, afterAll, resultsOf, labels}
+use Rattle.naming.specs.Inputs.{previous, lastOf}
+use Rattle.naming.specs.Agreement.{isOwn}
 use Rattle.results.specs.declared.ResultName.{ResultName}
 use Rattle.results.specs.declared.ResultName.the-variants as name
 use Rattle.results.specs.declared.Entry.{Entry}
 use Rattle.results.specs.declared.FilterResults.{FilterResults}
 use Rattle.results.specs.Means.{labelIs, nameIs, labelsIs, namesIs, resultsIs, Named, Next, Explicit, Fresh, NameAt}
-use Rattle.results.proofs.Words.{or-none}
-use Rattle.results.proofs.Naming.{free-stop, free-at-most}
-use Rattle.results.proofs.Made.{member-append, own-append, labels-take}
-use Rattle.results.proofs.Claim.{map-snoc}
+use Rattle.naming.proofs.Words.{or-none}
+use Rattle.naming.proofs.Naming.{free-stop, free-at-most}
+use Rattle.naming.proofs.Made.{member-append, own-append, labels-take}
+use Rattle.naming.proofs.Claim.{map-snoc}
 
 -- what the rules know of a struct's field that is an array
 pub array-length : {A B : Type 0} (g : A → B) (l : List A) (n : ℕ) → length (map g l) ≡ n → length l ≡ n

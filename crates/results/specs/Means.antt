@@ -8,8 +8,8 @@ use Rattle.bits.specs.Texts.{textIs}
 use Rattle.bits.specs.declared.Text.{Text}
 use Rattle.tree.specs.Input as tree
 use Rattle.tree.specs.Input.{Name, textBytes, inputBytes}
-use Rattle.results.specs.Names.{digits, Label, Own, Made, nameOf, Results, after, resultsOf}
-use Rattle.results.specs.Inputs.{previous}
+use Rattle.naming.specs.Names.{digits, Label, Own, Made, nameOf, Results, after, resultsOf}
+use Rattle.naming.specs.Inputs.{previous}
 use Rattle.results.specs.declared.Digits.{Digits}
 use Rattle.results.specs.declared.ResultName.{ResultName}
 use Rattle.results.specs.declared.ResultName.the-variants as name

@@ -8,7 +8,8 @@ ghost use Rattle.geom.specs.Geometry.{validLength, viewBoxLength};
 ghost use Rattle.svgtree.specs.Parse.{single, double, singlesFrom, tryAt, triedAt, valueAt, attributeAt, placesFrom, nodeFrom, nodesFrom, countOf, headerLength, headerOf, sheetOf};
 ghost use Rattle.svgtree.specs.Values.{triesValue};
 ghost use Rattle.layout.specs.Tests.{all};
-ghost use Rattle.sheet_check.specs.Numbers.{doubleOk, tryNumberOk, valueNumbersOk, opacityIn, attributeNumbersOk, nodeNumbersOk, exists, boundsOk, headerLengthsNumbersOk, headerNumbersOk, numbersOk};
+ghost use Rattle.num.specs.Sign.{opacityIn};
+ghost use Rattle.sheet_check.specs.Numbers.{doubleOk, tryNumberOk, valueNumbersOk, attributeNumbersOk, nodeNumbersOk, exists, boundsOk, headerLengthsNumbersOk, headerNumbersOk, numbersOk};
 ghost use Rattle.sheet_check.specs.Refusals.{isImage, noImage, tooLarge, firstRefusal};
 use bits::byte;
 use bits::get16;
@@ -52,7 +53,7 @@ fn is_finite_at(s: &[u8], at: usize) -> bool
     }
 }
 
-fn is_double_at(s: &[u8], at: usize) -> bool
+pub fn is_double_at(s: &[u8], at: usize) -> bool
     ensures { λ r. ⌜ r ≡ doubleOk (double (now (s .entry)) at) ⌝ }
 {
     let x = take_number(get64(s, at));
@@ -62,7 +63,7 @@ fn is_double_at(s: &[u8], at: usize) -> bool
     }
 }
 
-fn is_positive_at(s: &[u8], at: usize) -> bool
+pub fn is_positive_at(s: &[u8], at: usize) -> bool
     ensures { λ r. ⌜ r ≡ positive (single (now (s .entry)) at) ⌝ }
 {
     let x = take_single(get32(s, at));
@@ -72,7 +73,7 @@ fn is_positive_at(s: &[u8], at: usize) -> bool
     }
 }
 
-fn is_view_box_length_at(s: &[u8], at: usize) -> bool
+pub fn is_view_box_length_at(s: &[u8], at: usize) -> bool
     ensures { λ r. ⌜ r ≡ viewBoxLength (single (now (s .entry)) at) ⌝ }
 {
     let x = take_single(get32(s, at));
@@ -82,7 +83,7 @@ fn is_view_box_length_at(s: &[u8], at: usize) -> bool
     }
 }
 
-fn is_valid_length_at(s: &[u8], at: usize) -> bool
+pub fn is_valid_length_at(s: &[u8], at: usize) -> bool
     ensures { λ r. ⌜ r ≡ validLength (single (now (s .entry)) at) ⌝ }
 {
     let x = take_single(get32(s, at));

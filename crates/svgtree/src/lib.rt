@@ -109,25 +109,25 @@ pub fn node_count(s: &[u8]) -> u16
     get16(s, 72)
 }
 
-pub fn node_offset(s: &[u8], i: u16) -> u16
+fn offset_at(s: &[u8], i: u16) -> u16
     ensures { λ r. ⌜ r ≡ offsetOf (now (s .entry)) i ⌝ }
 {
     (get32(s, 74 + 8 * wide16(i)) % 65536) as u16
 }
 
-pub fn depth(s: &[u8], at: u16) -> u8
+fn depth_at(s: &[u8], at: u16) -> u8
     ensures { λ r. ⌜ r ≡ nodeFrom (now (s .entry)) at .depth ⌝ }
 {
     byte(s, wide16(at))
 }
 
-pub fn tag(s: &[u8], at: u16) -> u8
+fn tag_at(s: &[u8], at: u16) -> u8
     ensures { λ r. ⌜ r ≡ nodeFrom (now (s .entry)) at .tag ⌝ }
 {
     byte(s, wide16(at) + 1)
 }
 
-pub fn font_size(s: &[u8], at: u16) -> f32
+fn font_size_at(s: &[u8], at: u16) -> f32
     ensures { λ r. ⌜ r ≡ fontSizeOf (nodeFrom (now (s .entry)) at) ⌝ }
 {
     single(get32(s, wide16(at) + 4))
@@ -189,7 +189,7 @@ fn cut(n: u16) -> u8
     if n < 255 { n as u8 } else { 255 }
 }
 
-pub fn text_of(s: &[u8], at: u16, id: u16) -> MaybeText
+fn find_text(s: &[u8], at: u16, id: u16) -> MaybeText
     ensures { λ r. ⌜ maybeTextIs (now (s .entry)) r ≡ textOf (nodeFrom (now (s .entry)) at) id ⌝ }
 {
     let f = find(s, at, id);
@@ -205,7 +205,7 @@ pub fn text_of(s: &[u8], at: u16, id: u16) -> MaybeText
     }
 }
 
-pub fn number_of(s: &[u8], at: u16, id: u16) -> MaybeNumber
+fn find_number(s: &[u8], at: u16, id: u16) -> MaybeNumber
     ensures { λ r. ⌜ r ≡ numberOf (nodeFrom (now (s .entry)) at) id ⌝ }
 {
     let f = find(s, at, id);
@@ -221,7 +221,7 @@ pub fn number_of(s: &[u8], at: u16, id: u16) -> MaybeNumber
     }
 }
 
-pub fn numbers_of(s: &[u8], at: u16, id: u16) -> MaybeNumbers
+fn find_numbers(s: &[u8], at: u16, id: u16) -> MaybeNumbers
     ensures { λ r. ⌜ maybeNumbersIs (now (s .entry)) r ≡ numbersOf (nodeFrom (now (s .entry)) at) id ⌝ }
 {
     let f = find(s, at, id);
@@ -254,7 +254,7 @@ fn unit_of(b: u8) -> LengthUnit
     }
 }
 
-fn length_from(s: &[u8], at: usize) -> Length
+pub fn length_from(s: &[u8], at: usize) -> Length
     requires { ⌜ at < 2 ^ 33 ⌝ }
     ensures { λ r. ⌜ MaybeLength.Is r ≡ lengthIn (lengthAt (now (s .entry)) at) ⌝ }
 {
@@ -265,7 +265,7 @@ fn length_from(s: &[u8], at: usize) -> Length
     }
 }
 
-pub fn length_of(s: &[u8], at: u16, id: u16) -> MaybeLength
+fn find_length(s: &[u8], at: u16, id: u16) -> MaybeLength
     ensures { λ r. ⌜ r ≡ lengthOf (nodeFrom (now (s .entry)) at) id ⌝ }
 {
     let f = find(s, at, id);
@@ -281,7 +281,7 @@ pub fn length_of(s: &[u8], at: u16, id: u16) -> MaybeLength
     }
 }
 
-fn color_from(s: &[u8], at: usize) -> Color
+pub fn color_from(s: &[u8], at: usize) -> Color
     requires { ⌜ at < 2 ^ 33 ⌝ }
     ensures { λ r. ⌜ r ≡ colorAt (now (s .entry)) at ⌝ }
 {
@@ -293,7 +293,7 @@ fn color_from(s: &[u8], at: usize) -> Color
     }
 }
 
-pub fn color_of(s: &[u8], at: u16, id: u16) -> MaybeColor
+fn find_color(s: &[u8], at: u16, id: u16) -> MaybeColor
     ensures { λ r. ⌜ r ≡ colorOf (nodeFrom (now (s .entry)) at) id ⌝ }
 {
     let f = find(s, at, id);
@@ -333,7 +333,7 @@ fn tries_from(s: &[u8], at: usize) -> MaybeTries
     })
 }
 
-pub fn tries_of(s: &[u8], at: u16, id: u16) -> MaybeTries
+fn find_tries(s: &[u8], at: u16, id: u16) -> MaybeTries
     ensures { λ r. ⌜ maybeTriesIs r ≡ triesOf (nodeFrom (now (s .entry)) at) id ⌝ }
 {
     let f = find(s, at, id);
@@ -347,6 +347,148 @@ pub fn tries_of(s: &[u8], at: u16, id: u16) -> MaybeTries
         }
         Found::Absent => MaybeTries::No,
     }
+}
+
+// The reader.
+
+// A node: the sheet's bytes and the node's offset. The functions over it only call those above; tools/walk.py writes their proofs.
+pub struct SvgNode<'a> {
+    pub bytes: &'a [u8],
+    pub at: u16,
+}
+
+impl<'a> SvgNode<'a> {
+    pub fn new(bytes: &'a [u8], at: u16) -> SvgNode<'a>
+        ensures { λ r. ⌜ (r .bytes ≡ bytes .entry) × (r .at ≡ at) ⌝ }
+    {
+        SvgNode { bytes, at }
+    }
+
+    // The source's `Document::get`. Numbers go by the sheet's order: after a node come its children, one by one.
+    pub fn get(bytes: &'a [u8], i: u16) -> SvgNode<'a>
+        ensures { λ r. ⌜ (r .bytes ≡ bytes .entry) × (r .at ≡ offsetOf (now (bytes .entry)) i) ⌝ }
+    {
+        let at = offset_at(bytes, i);
+        SvgNode { bytes, at }
+    }
+
+    pub fn depth(self) -> u8
+        ensures { λ r. ⌜ r ≡ nodeFrom (now (self .entry .bytes)) (self .entry .at) .depth ⌝ }
+    {
+        depth_at(self.bytes, self.at)
+    }
+
+    pub fn tag_name(self) -> u8
+        ensures { λ r. ⌜ r ≡ nodeFrom (now (self .entry .bytes)) (self .entry .at) .tag ⌝ }
+    {
+        tag_at(self.bytes, self.at)
+    }
+
+    pub fn font_size(self) -> f32
+        ensures { λ r. ⌜ r ≡ fontSizeOf (nodeFrom (now (self .entry .bytes)) (self .entry .at)) ⌝ }
+    {
+        font_size_at(self.bytes, self.at)
+    }
+
+    // The source's `attribute`, by type.
+
+    pub fn attribute_text(self, id: u16) -> MaybeText
+        ensures { λ r. ⌜ maybeTextIs (now (self .entry .bytes)) r ≡ textOf (nodeFrom (now (self .entry .bytes)) (self .entry .at)) id ⌝ }
+    {
+        find_text(self.bytes, self.at, id)
+    }
+
+    pub fn attribute_number(self, id: u16) -> MaybeNumber
+        ensures { λ r. ⌜ r ≡ numberOf (nodeFrom (now (self .entry .bytes)) (self .entry .at)) id ⌝ }
+    {
+        find_number(self.bytes, self.at, id)
+    }
+
+    pub fn attribute_numbers(self, id: u16) -> MaybeNumbers
+        ensures { λ r. ⌜ maybeNumbersIs (now (self .entry .bytes)) r ≡ numbersOf (nodeFrom (now (self .entry .bytes)) (self .entry .at)) id ⌝ }
+    {
+        find_numbers(self.bytes, self.at, id)
+    }
+
+    pub fn attribute_length(self, id: u16) -> MaybeLength
+        ensures { λ r. ⌜ r ≡ lengthOf (nodeFrom (now (self .entry .bytes)) (self .entry .at)) id ⌝ }
+    {
+        find_length(self.bytes, self.at, id)
+    }
+
+    pub fn attribute_color(self, id: u16) -> MaybeColor
+        ensures { λ r. ⌜ r ≡ colorOf (nodeFrom (now (self .entry .bytes)) (self .entry .at)) id ⌝ }
+    {
+        find_color(self.bytes, self.at, id)
+    }
+
+    pub fn attribute_tries(self, id: u16) -> MaybeTries
+        ensures { λ r. ⌜ maybeTriesIs r ≡ triesOf (nodeFrom (now (self .entry .bytes)) (self .entry .at)) id ⌝ }
+    {
+        find_tries(self.bytes, self.at, id)
+    }
+}
+
+// The same with plain parameters: whoever has an `SvgNode` in a local needs a proof by hand.
+
+pub fn node_offset(s: &[u8], i: u16) -> u16
+    ensures { λ r. ⌜ r ≡ offsetOf (now (s .entry)) i ⌝ }
+{
+    SvgNode::get(s, i).at
+}
+
+pub fn depth(s: &[u8], at: u16) -> u8
+    ensures { λ r. ⌜ r ≡ nodeFrom (now (s .entry)) at .depth ⌝ }
+{
+    SvgNode::new(s, at).depth()
+}
+
+pub fn tag(s: &[u8], at: u16) -> u8
+    ensures { λ r. ⌜ r ≡ nodeFrom (now (s .entry)) at .tag ⌝ }
+{
+    SvgNode::new(s, at).tag_name()
+}
+
+pub fn font_size(s: &[u8], at: u16) -> f32
+    ensures { λ r. ⌜ r ≡ fontSizeOf (nodeFrom (now (s .entry)) at) ⌝ }
+{
+    SvgNode::new(s, at).font_size()
+}
+
+pub fn text_of(s: &[u8], at: u16, id: u16) -> MaybeText
+    ensures { λ r. ⌜ maybeTextIs (now (s .entry)) r ≡ textOf (nodeFrom (now (s .entry)) at) id ⌝ }
+{
+    SvgNode::new(s, at).attribute_text(id)
+}
+
+pub fn number_of(s: &[u8], at: u16, id: u16) -> MaybeNumber
+    ensures { λ r. ⌜ r ≡ numberOf (nodeFrom (now (s .entry)) at) id ⌝ }
+{
+    SvgNode::new(s, at).attribute_number(id)
+}
+
+pub fn numbers_of(s: &[u8], at: u16, id: u16) -> MaybeNumbers
+    ensures { λ r. ⌜ maybeNumbersIs (now (s .entry)) r ≡ numbersOf (nodeFrom (now (s .entry)) at) id ⌝ }
+{
+    SvgNode::new(s, at).attribute_numbers(id)
+}
+
+pub fn length_of(s: &[u8], at: u16, id: u16) -> MaybeLength
+    ensures { λ r. ⌜ r ≡ lengthOf (nodeFrom (now (s .entry)) at) id ⌝ }
+{
+    SvgNode::new(s, at).attribute_length(id)
+}
+
+pub fn color_of(s: &[u8], at: u16, id: u16) -> MaybeColor
+    ensures { λ r. ⌜ r ≡ colorOf (nodeFrom (now (s .entry)) at) id ⌝ }
+{
+    SvgNode::new(s, at).attribute_color(id)
+}
+
+pub fn tries_of(s: &[u8], at: u16, id: u16) -> MaybeTries
+    ensures { λ r. ⌜ maybeTriesIs r ≡ triesOf (nodeFrom (now (s .entry)) at) id ⌝ }
+{
+    SvgNode::new(s, at).attribute_tries(id)
 }
 
 // The header.

@@ -21,20 +21,20 @@ use Rattle.units.specs.declared.FilterRegion.{FilterRegion}
 use Rattle.units.specs.declared.FilterRegion.the-variants as region
 use Rattle.units.specs.Region.{filterRegionOf, frameOf}
 use Rattle.kinds.specs.Child.{Child}
-use Rattle.results.specs.Names.{Results, start, namesSoFar, nameOf, label, after}
-use Rattle.results.specs.Inputs.{resolve}
-use Rattle.results.specs.Agreement as names
-use Rattle.results.specs.Agreement.{Agrees}
-use Rattle.results.proofs.Claim.{claim}
-use Rattle.results.proofs.Words.{or-right}
+use Rattle.naming.specs.Names.{Results, start, namesSoFar, nameOf, label, after}
+use Rattle.naming.specs.Inputs.{resolve}
+use Rattle.naming.specs.Agreement as names
+use Rattle.naming.specs.Agreement.{Agrees}
+use Rattle.naming.proofs.Claim.{claim}
+use Rattle.naming.proofs.Words.{or-right}
 use Rattle.filter.specs.Chain.{Chain, refusedSix, refusedSeven, kept, chain}
 use Rattle.list.specs.Primitives.{primitivesFrom, primitives, childNames, recordNames}
-use Rattle.zatongae.specs.Numbers.{Sound}
+use Rattle.ranges.specs.Numbers.{Sound}
 use Rattle.zatongae.specs.Call.{placeable, collected, Outcome, refused, given, fit, ofChain, inRegion, unlessRefused, outcome, numberOf, outputOf, Answers, Claim, Converted}
 use Rattle.zatongae.specs.declared.Answer.{Answer}
 use Rattle.zatongae.proofs.Collecting.{all-nodes}
 use Rattle.zatongae.proofs.Lists.{refused-by}
-use Rattle.zatongae.proofs.Sound.{sound}
+use Rattle.ranges.proofs.Sound.{sound}
 
 -- the same outcome, said otherwise
 pub answers-as : {x y : Outcome} {o : List ℕ} {r : Answer} {o′ : List ℕ} → y ≡ x → Answers x o r o′ → Answers y o r o′
@@ -105,7 +105,7 @@ kept-same : (cs ds : List Child) → kept cs ≡ kept ds → cs ≡ ds
 kept-same cs ds e = cc
 
 sound-none : Sound (primitives [])
-unfolding primitivesFrom Rattle.zatongae.specs.Numbers.listNumbers Rattle.zatongae.specs.Numbers.AllInRange
+unfolding primitivesFrom Rattle.ranges.specs.Numbers.listNumbers Rattle.ranges.specs.Numbers.AllInRange
 sound-none = record { numbers = tt; ranges = tt }
 
 -- The numbers: where a frame cannot place a primitive, no child counts

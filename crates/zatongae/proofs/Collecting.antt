@@ -20,7 +20,7 @@ use Rattle.filter.specs.Chain.{Chain, refusedSix, refusedSeven, kept, put}
 use Rattle.filter.specs.Means.{stepAt, chainFrom}
 use Rattle.results.specs.Means.{Named, Next, Fresh}
 use Rattle.results.specs.declared.FilterResults.{FilterResults}
-use Rattle.results.proofs.Claim.{map-snoc}
+use Rattle.naming.proofs.Claim.{map-snoc}
 use Rattle.results.proofs.Tables.{named-next}
 use Rattle.list.specs.Primitives.{ownsOf}
 use Rattle.records.specs.Tables.{childAt}

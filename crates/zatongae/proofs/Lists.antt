@@ -16,7 +16,7 @@ use Rattle.tree.proofs.Pairs.{length-pairs}
 use Rattle.units.specs.declared.Frame.{Frame}
 use Rattle.kinds.specs.Child.{Child}
 use Rattle.results.specs.declared.FilterResults.{FilterResults}
-use Rattle.results.specs.Names.{Results, start, after}
+use Rattle.naming.specs.Names.{Results, start, after}
 use Rattle.list.specs.Primitives.{primitivesFrom, primitives}
 use Rattle.records.specs.Tables.{recordsUpTo, Measures}
 use Rattle.records.specs.declared.Sizes.{Sizes}

@@ -8,6 +8,7 @@ ghost use Rattle.num.specs.Narrowed.{narrowed};
 ghost use Rattle.svgtree.specs.Parse.{countOf, sheetOf};
 ghost use Rattle.sheet_check.specs.Refusals.{refusalNumber, firstRefusal};
 ghost use Rattle.units.specs.Region.{filterRegionOf};
+ghost use Rattle.functions.specs.Call.{ConvertedFunction};
 ghost use Rattle.zatongae.specs.Plans.{childrenIs, Planned, Collects};
 ghost use Rattle.zatongae.specs.Call.{placeable, collected, fit, ofChain, inRegion, Answers, Converted};
 use bits::put_u16;
@@ -15,6 +16,7 @@ use bits::wide16;
 use bits::wide32;
 use filter::Next;
 use filter::next_child;
+use functions::convert_function;
 use geom::MaybeRect;
 use num::narrow;
 use records::put_records;
@@ -200,7 +202,21 @@ pub extern "C" fn zatongae_convert(sheet: &[u8], out: &mut [u8]) -> Answer
     convert_checked(sheet, out)
 }
 
-// An f64's bits to those of the nearest f32, ties to even. Ruled out among others: cutting toward zero, and an infinity for every large number.
+// The record of a shorthand function to its kind: any bytes and any output. Ruled out among others: a matrix with the last
+// bit of one coefficient changed, and one with two rows swapped.
+#[no_mangle]
+pub extern "C" fn zatongae_convert_function(record: &[u8], out: &mut [u8]) -> Answer
+    ensures { λ r. ⌜ ConvertedFunction (now («record» .entry)) (now (out .entry)) (r .number) (r .length) (now (out .exit)) ⌝ }
+{
+    let done = convert_function(record, out);
+    Answer {
+        number: done.number,
+        length: done.length,
+    }
+}
+
+// An f64's bits to those of the nearest f32, ties to even. Ruled out among others: a tie that goes up from an even number, and 0 for
+// what lies above half of the smallest f32.
 #[no_mangle]
 pub extern "C" fn zatongae_narrow(bits: u64) -> u32
     ensures { λ r. ⌜ r ≡ toBits binary32 (narrowed (ofBits binary64 bits)) ⌝ }

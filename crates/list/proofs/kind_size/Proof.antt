@@ -3,7 +3,7 @@ use native.Mathlib.Omega.{arith}
 use denote.Ref.{now}
 use mathlib.Core.Path.{ap}
 use Rattle.kinds.specs.Means.{mergeEnd}
-use Rattle.list.proofs.Lengths.{size-Flood, size-Turbulence}
+use Rattle.list_kinds.proofs.Lengths.{size-Flood, size-Turbulence}
 use borrow.Author.Needs.{needs}
 use Rattle.list.proofs.kind_size.Statement.{statement}
 use Rattle.list.proofs.kind_size.Tie as tie

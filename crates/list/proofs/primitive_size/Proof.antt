@@ -2,7 +2,7 @@
 use native.Mathlib.Omega.{arith}
 use denote.Ref.{now}
 use Rattle.list.specs.Tables.{primitiveAt}
-use Rattle.list.proofs.Lengths.{size-primitive}
+use Rattle.list_kinds.proofs.Lengths.{size-primitive}
 use borrow.Author.Needs.{needs}
 use Rattle.list.proofs.primitive_size.Statement.{statement}
 use Rattle.list.proofs.primitive_size.Tie as tie

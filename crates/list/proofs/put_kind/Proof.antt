@@ -4,7 +4,7 @@ use denote.Ref.{now}
 use mathlib.Core.Path.{ap}
 use Rattle.tree.specs.Kinds.{mapKind}
 use Rattle.kinds.specs.Means.{mergeEnd}
-use Rattle.list.proofs.Lengths.{size-Flood, size-Turbulence}
+use Rattle.list_kinds.proofs.Lengths.{size-Flood, size-Turbulence}
 use Rattle.bits.proofs.Patches.{_counted_}
 use borrow.Author.Needs.{needs}
 use Rattle.list.proofs.put_kind.Statement.{statement}

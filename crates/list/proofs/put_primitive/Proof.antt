@@ -4,7 +4,7 @@ use denote.Ref.{now}
 use Rattle.bits.proofs.Patches.{_then_, _counted_}
 use Rattle.tree.specs.List.{primitiveBytes}
 use Rattle.list.specs.Tables.{primitiveAt}
-use Rattle.list.proofs.Lengths.{size-primitive}
+use Rattle.list_kinds.proofs.Lengths.{size-primitive}
 use borrow.Author.Needs.{needs}
 use Rattle.list.proofs.put_primitive.Statement.{statement}
 use Rattle.list.proofs.put_primitive.Tie as tie

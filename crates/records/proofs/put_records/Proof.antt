@@ -8,7 +8,7 @@ use Prim.Native.Nat.{_-_, _≤_}
 use lib.ListN.{length, getD}
 use Rattle.bits.specs.Patch.{Put}
 use Rattle.bits.proofs.Patches.{put-none}
-use Rattle.list.proofs.Growing.{room, put-more}
+use Rattle.list_kinds.proofs.Growing.{room, put-more}
 use Rattle.records.specs.Tables.{recordsUpTo}
 use Rattle.records.proofs.put_records.Statement.{statement}
 use Rattle.records.proofs.put_records.Tie as tie

@@ -6,10 +6,10 @@ use Prim.Native.Nat.{_-_, _≤_, _<_}
 use native.Mathlib.Omega.{arith}
 use denote.Ref.{now}
 use lib.ListN.{length}
-use Rattle.results.proofs.Words.{or-none, or-true}
+use Rattle.naming.proofs.Words.{or-none, or-true}
 use Rattle.bits.specs.Bytes.{same}
 use Rattle.bits.specs.Texts.{textIs}
-use Rattle.results.specs.Names.{member}
+use Rattle.naming.specs.Names.{member}
 use Rattle.results.specs.Means.{nameIs, namesIs}
 use Rattle.results.proofs.Tables.{array-length, entryName, name-at, has-step, none-had}
 use Rattle.results.proofs.has_name.Statement.{statement}

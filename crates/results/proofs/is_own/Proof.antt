@@ -3,8 +3,8 @@ use mathlib.Core.Path.{_∙_}
 use mathlib.Core.List.{_++_}
 use denote.Ref.{now}
 use Rattle.bits.specs.Texts.{textIs}
-use Rattle.results.specs.Names.{w-result}
-use Rattle.results.proofs.Words.{same-comm}
+use Rattle.naming.specs.Names.{w-result}
+use Rattle.naming.proofs.Words.{same-comm}
 use borrow.Author.Needs.{needs}
 use Rattle.results.proofs.is_own.Statement.{statement}
 use Rattle.results.proofs.is_own.Tie as tie

@@ -3,7 +3,7 @@ use mathlib.Core.Path.{_≡_, sym, _∙_}
 use mathlib.Core.Bool.{true, false}
 use denote.Ref.{now}
 use Rattle.bits.specs.Texts.{textIs}
-use Rattle.results.specs.Names.{member}
+use Rattle.naming.specs.Names.{member}
 use Rattle.results.specs.Means.{namesIs}
 use borrow.Author.Needs.{needs}
 use Rattle.results.proofs.reference.Statement.{statement}

@@ -1,9 +1,9 @@
 -- By what `parse_in` reads; a text that it reads as a reference it reads as itself (`read-name`). Assumes nothing.
 use mathlib.Core.Path.{sym, ap, _∙_}
 use denote.Ref.{now}
-use Rattle.results.specs.Inputs.{settled}
+use Rattle.naming.specs.Inputs.{settled}
 use Rattle.results.specs.Means.{namesIs, inputIs}
-use Rattle.results.proofs.Claim.{read-name}
+use Rattle.naming.proofs.Claim.{read-name}
 use Rattle.bits.specs.Texts.{textIs}
 use borrow.Author.Needs.{needs}
 use Rattle.results.proofs.resolve_text.Statement.{statement}

@@ -6,10 +6,10 @@ use Prim.Native.Nat.{_-_, _≤_, _<_}
 use native.Mathlib.Omega.{arith}
 use denote.Ref.{now}
 use lib.ListN.{length}
-use Rattle.results.proofs.Words.{or-none, or-true}
+use Rattle.naming.proofs.Words.{or-none, or-true}
 use mathlib.Core.List.{_++_}
-use Rattle.results.specs.Names.{w-result, member, ownNames}
-use Rattle.results.specs.Agreement.{isOwn}
+use Rattle.naming.specs.Names.{w-result, member, ownNames}
+use Rattle.naming.specs.Agreement.{isOwn}
 use Rattle.results.specs.Means.{labelIs, labelsIs}
 use Rattle.results.proofs.Tables.{array-length, entryName, name-at, taken-step, none-taken}
 use Rattle.results.proofs.taken.Statement.{statement}

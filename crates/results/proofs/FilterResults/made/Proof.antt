@@ -5,9 +5,9 @@ use Prim.Native.Nat.{_-_, _≤_, _<_}
 use native.Mathlib.Omega.{arith}
 use denote.Ref.{now}
 use lib.ListN.{length}
-use Rattle.results.specs.Names.{free, ownNames}
+use Rattle.naming.specs.Names.{free, ownNames}
 use Rattle.results.specs.Means.{labelsIs}
-use Rattle.results.proofs.Naming.{free-at-least, free-at-most, free-go}
+use Rattle.naming.proofs.Naming.{free-at-least, free-at-most, free-go}
 use Rattle.results.proofs.Tables.{array-length, taken-few, made-stored}
 use Rattle.results.proofs.FilterResults.made.Statement.{statement}
 use Rattle.results.proofs.FilterResults.made.Tie as tie

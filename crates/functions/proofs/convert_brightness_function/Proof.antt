@@ -1,0 +1,19 @@
+-- The slope is the narrowed amount; the literal is 0. Assumes nothing.
+use mathlib.Core.Path.{ap}
+use lib.Ieee.{Float}
+use Rattle.num.specs.Narrowed.{doubleOf}
+use Rattle.tree.specs.declared.TransferFunction.the-variants.{Linear}
+use Rattle.fe_color.specs.Numbers.{zero}
+use borrow.Author.Needs.{needs}
+use Rattle.functions.proofs.convert_brightness_function.Statement.{statement}
+use Rattle.functions.proofs.convert_brightness_function.Tie as tie
+
+double-narrowed-requires : tie.Need-double-narrowed-requires
+double-narrowed-requires c κs = search needs
+
+returns : tie.Need-returns
+unfolding doubleOf
+returns c = ap (λ (a : Float). Linear a zero) (c .double-narrowed .ensures)
+
+pub convert-brightness-function-spec : {M : Type 1} → statement M
+convert-brightness-function-spec = tie.close (tie.spec double-narrowed-requires returns)

@@ -1,0 +1,21 @@
+-- What the two calls ensure, one after the other. Assumes nothing.
+use mathlib.Core.Path.{ap, _∙_}
+use Rattle.num.specs.Narrowed.{doubleOf}
+use Rattle.functions.specs.Functions.{positiveOrZero}
+use borrow.Author.Needs.{needs}
+use Rattle.functions.proofs.convert_saturate_function.Statement.{statement}
+use Rattle.functions.proofs.convert_saturate_function.Tie as tie
+
+double-narrowed-requires : tie.Need-double-narrowed-requires
+double-narrowed-requires c κs = search needs
+
+positive-or-zero-requires : tie.Need-positive-or-zero-requires
+positive-or-zero-requires c κs = search needs
+
+returns : tie.Need-returns
+unfolding doubleOf
+returns c = c .positive-or-zero .ensures ∙ ap positiveOrZero (c .before .double-narrowed .ensures)
+
+pub convert-saturate-function-spec : {M : Type 1} → statement M
+convert-saturate-function-spec =
+    tie.close (tie.spec double-narrowed-requires positive-or-zero-requires returns)

@@ -1,0 +1,17 @@
+-- The code's operations are the definition's, on the held amount; its literals are the f32 nearest to the fractions. Assumes nothing.
+use mathlib.Core.Path.{ap}
+use lib.Ieee.{ofBits, round}
+use Rattle.functions.specs.Functions.{sepiaMatrix}
+use borrow.Author.Needs.{needs}
+use Rattle.functions.proofs.convert_sepia_function.Statement.{statement}
+use Rattle.functions.proofs.convert_sepia_function.Tie as tie
+
+held-at-one-requires : tie.Need-held-at-one-requires
+held-at-one-requires c κs = search needs
+
+returns : tie.Need-returns
+unfolding sepiaMatrix round ofBits
+returns c = ap sepiaMatrix (c .held-at-one .ensures)
+
+pub convert-sepia-function-spec : {M : Type 1} → statement M
+convert-sepia-function-spec = tie.close (tie.spec held-at-one-requires returns)

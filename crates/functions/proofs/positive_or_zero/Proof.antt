@@ -1,0 +1,20 @@
+-- By cases on the test. Assumes nothing.
+use mathlib.Core.Path.{sym, _∙_}
+use Rattle.functions.specs.Functions.{positiveOrZero}
+use borrow.Author.Needs.{needs}
+use Rattle.functions.proofs.positive_or_zero.Statement.{statement}
+use Rattle.functions.proofs.positive_or_zero.Tie as tie
+
+is-positive-requires : tie.Need-is-positive-requires
+is-positive-requires c κs = search needs
+
+returns : tie.Need-returns
+unfolding positiveOrZero
+returns c = rw (sym (c .before .is-positive .ensures) ∙ c .if1 .taken)
+
+returns-2 : tie.Need-returns-2
+unfolding positiveOrZero
+returns-2 c = rw (sym (c .before .is-positive .ensures) ∙ c .if1 .left)
+
+pub positive-or-zero-spec : {M : Type 1} → statement M
+positive-or-zero-spec = tie.close (tie.spec is-positive-requires returns returns-2)

@@ -1,0 +1,23 @@
+-- The head, then the fields. Assumes nothing.
+use Rattle.bits.proofs.Patches.{_then_}
+use Rattle.tree.specs.List.{kindBytes}
+use borrow.Author.Needs.{needs}
+use Rattle.functions.proofs.put_shadow.Statement.{statement}
+use Rattle.functions.proofs.put_shadow.Tie as tie
+
+put-head-requires : tie.Need-put-head-requires
+put-head-requires c κs = search needs
+
+put-drop-shadow-requires : tie.Need-put-drop-shadow-requires
+put-drop-shadow-requires c κs = search needs
+
+same-length : tie.Need-same-length
+same-length c = search needs
+
+returns : tie.Need-returns
+unfolding kindBytes
+returns c = c .before .before .before .before .before .before .put-head .ensures then c .before .before .put-drop-shadow .ensures
+
+pub put-shadow-spec : {M : Type 1} → statement M
+put-shadow-spec =
+    tie.close (tie.spec put-head-requires put-drop-shadow-requires same-length returns)

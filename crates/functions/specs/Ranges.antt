@@ -1,0 +1,26 @@
+-- What holds of the numbers of a function's kind: none is NaN, a saturation and a deviation are positive, an opacity is 0 to 1, a matrix has twenty
+-- numbers. Definitions only.
+use mathlib.Core.Path.{_≡_}
+use lib.Dec.{T}
+use lib.ListN.{length}
+use Rattle.num.specs.Sign.{positive}
+use Rattle.tree.specs.Input.{Input}
+use Rattle.tree.specs.Kinds.{Kind, ColorMatrix, ComponentTransfer, DropShadow, GaussianBlur, ColorMatrixKind, Matrix, Saturate, HueRotate, LuminanceToAlpha, ComponentTransferFields}
+use Rattle.tree.specs.declared.GaussianBlur.{GaussianBlur as GaussianBlurFields}
+use Rattle.tree.specs.declared.DropShadow.{DropShadow as DropShadowFields}
+use Rattle.fe_blur.specs.Ranges.{GaussianBlurRange, DropShadowRange}
+use Rattle.fe_color.specs.Ranges.{Each, IsNumber, componentTransferNumbers}
+
+-- a positive number is finite, so it is no NaN. No function gives luminanceToAlpha.
+abbrev pub MatrixRange : ColorMatrixKind → Type 0
+MatrixRange (Matrix xs) = (length xs ≡ 20) × Each IsNumber xs
+MatrixRange (Saturate x) = T (positive x)
+MatrixRange (HueRotate x) = IsNumber x
+MatrixRange LuminanceToAlpha = ⊥
+
+-- a function's kind is one of four. Deviations are positive and an opacity lies between 0 and 1, so these are no NaN either.
+pub data InRange : Kind Input → Type 0 where
+  colorMatrix : {a : Input} {v : ColorMatrixKind} → MatrixRange v → InRange (ColorMatrix a v)
+  componentTransfer : {a : Input} {v : ComponentTransferFields} → Each IsNumber (componentTransferNumbers v) → InRange (ComponentTransfer a v)
+  gaussianBlur : {a : Input} {v : GaussianBlurFields} → GaussianBlurRange v → InRange (GaussianBlur a v)
+  dropShadow : {a : Input} {v : DropShadowFields} → DropShadowRange v → InRange (DropShadow a v)

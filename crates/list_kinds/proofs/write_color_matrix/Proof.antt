@@ -1,0 +1,27 @@
+-- The place, the inputs and the other fields, one writer after the other. Assumes nothing.
+use native.Mathlib.Omega.{arith}
+use denote.Ref.{now}
+use Rattle.tree.specs.Kinds.{mapKind}
+use Rattle.tree.specs.List.{kindBytes}
+use Rattle.bits.proofs.Patches.{_then_, _counted_}
+use Rattle.list_kinds.proofs.Lengths.{size-ColorMatrix}
+use borrow.Author.Needs.{needs}
+use Rattle.list_kinds.proofs.write_color_matrix.Statement.{statement}
+use Rattle.list_kinds.proofs.write_color_matrix.Tie as tie
+
+put-head-requires : tie.Need-put-head-requires
+put-head-requires c κs = (c .before .before .before .pre .0, omega (arith, size-ColorMatrix (now (c .before .before .before .args .s)) (c .before .before .before .args .f) (c .before .before .before .args .n) (c .before .before .before .args .v), c .before .before .before .pre .1))
+
+put-color-matrix-kind-requires : tie.Need-put-color-matrix-kind-requires
+put-color-matrix-kind-requires c κs = omega (arith, size-ColorMatrix (now (c .before .before .before .before .before .before .before .args .s)) (c .before .before .before .before .before .before .before .args .f) (c .before .before .before .before .before .before .before .args .n) (c .before .before .before .before .before .before .before .args .v), c .before .before .before .before .before .before .before .pre .1)
+
+same-length : tie.Need-same-length
+same-length c = search needs
+
+returns : tie.Need-returns
+unfolding mapKind kindBytes
+returns c = c .before .before .before .before .before .before .put-head .ensures then c .before .before .put-color-matrix-kind .ensures counted omega (arith, size-ColorMatrix (now (c .before .before .before .before .before .before .before .before .before .before .args .s)) (c .before .before .before .before .before .before .before .before .before .before .args .f) (c .before .before .before .before .before .before .before .before .before .before .args .n) (c .before .before .before .before .before .before .before .before .before .before .args .v))
+
+pub write-color-matrix-spec : {M : Type 1} → statement M
+write-color-matrix-spec =
+    tie.close (tie.spec put-head-requires put-color-matrix-kind-requires same-length returns)

@@ -1,0 +1,4 @@
+pub mod Words
+pub mod Naming
+pub mod Made
+pub mod Claim

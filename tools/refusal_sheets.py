@@ -1,0 +1,152 @@
+#!/usr/bin/env python3
+"""refusal_sheets.py: sheets for each refusal that a call can give, with the number that document 01 asks for. From the top of the repository:
+
+    python3 tools/refusal_sheets.py > crates/refusals/stdin
+
+A case is 8 bytes (the length of its name, the expected number, two zeros, the sheet's length as a u32), the name, and the sheet. Some cases stand just
+inside a limit and have the number 0. No sheet has 7: refusal 3 leaves no base frequency that is not finite.
+The numbers of elements and attributes are those of crates/names_list/stdout.
+"""
+import struct
+import sys
+
+PLACES = dict(line.split() for line in open('crates/names_list/stdout'))
+
+NONE, ABSENT = 0, 255
+USER, BOX, DEFAULT = 0, 1, 2
+TEXT, NUMBER, LIST, LENGTH = 1, 2, 3, 4
+NAN = float('nan')
+LARGEST = struct.unpack('<f', b'\xff\xff\x7f\x7f')[0]
+
+
+def tag(name):
+    return int(PLACES['EId::' + name])
+
+
+TILE, FLOOD, MERGE, IMAGE = tag('FeTile'), tag('FeFlood'), tag('FeMerge'), tag('FeImage')
+UNSUPPORTED = 1
+
+
+def attribute(name, kind, value):
+    return struct.pack('<HBBH', int(PLACES['AId::' + name]), kind, 0, len(value)) + value
+
+
+def text(name, value):
+    return attribute(name, TEXT, value)
+
+
+def number(name, value):
+    return attribute(name, NUMBER, struct.pack('<f', value))
+
+
+def numbers(name, values):
+    return attribute(name, LIST, struct.pack('<%df' % len(values), *values))
+
+
+def length(name, value, unit=NONE):
+    return attribute(name, LENGTH, struct.pack('<Bd', unit, value))
+
+
+def node(element, *attributes, depth=0, font_size=0):
+    """The attributes stand in the order given; a sheet asks for rising ids."""
+    return struct.pack('<BBBBf', depth, element, len(attributes), 0, font_size) + b''.join(attributes)
+
+
+def sheet(*nodes, units=(USER, USER), box=None, view_box=(2, 1), dpi=96, font_size=0, region=(0, 0, 2, 1), count=None, gap=0):
+    """What is not given is document 01's example; a length of the region is a number, or None where it is absent."""
+    head = bytes([*units, box is not None, 0]) + struct.pack('<4f', *(box or [0] * 4)) + struct.pack('<4f', *view_box, dpi, font_size)
+    for value in region:
+        head += struct.pack('<Bd', ABSENT, 0) if value is None else struct.pack('<Bd', NONE, value)
+    at, pairs = 74 + 8 * len(nodes) + gap, b''
+    for record in nodes:
+        pairs += struct.pack('<II', at, len(record))
+        at += len(record)
+    return head + struct.pack('<H', len(nodes) if count is None else count) + pairs + bytes(gap) + b''.join(nodes)
+
+
+def of_size(size):
+    """A sheet that nothing but its size can refuse: four tiles with lists that a tile does not use, and a name for the bytes that are left."""
+    lists = [numbers(name, [0] * 1024) for name in ('BaseFrequency', 'KernelMatrix', 'Radius', 'Values')]
+    def named(name):
+        last = [numbers('BaseFrequency', [0] * 901), *lists[1:3], text('Result', name), lists[3]]
+        return sheet(*[node(TILE, *lists)] * 3, node(TILE, *last))
+
+    return named(b'r' * (size - len(named(b''))))
+
+
+def merge_list(name, inputs, result):
+    """A tile, and a merge of so many inputs that each name it. The list has 58 bytes, the merge's result, and (name + 3) * (inputs + 1)."""
+    return sheet(node(TILE, text('Result', b'n' * name)), node(MERGE, text('Result', result)), *[node(0, depth=1)] * inputs)
+
+
+tile = node(TILE)
+wide = dict(units=(USER, BOX), box=(0, 0, 3e38, 1))
+
+CASES = [
+    # 1: size, before any layout
+    (1, 'sheet of 65,537 bytes', of_size(65537)),
+    (0, 'sheet of 65,536 bytes', of_size(65536)),
+    (1, '513 nodes', sheet(*[tile] * 513)),
+    (0, '512 nodes', sheet(*[tile] * 512)),
+    (1, 'node count of 513 over one node', sheet(tile, count=513)),
+    # 2: layout
+    (2, 'no byte', b''),
+    (2, 'sheet of 73 bytes', sheet(tile)[:73]),
+    (2, 'gap before the first record', sheet(tile, gap=1)),
+    (2, 'byte behind the last record', sheet(tile) + b'\0'),
+    (2, 'no node and a byte more', sheet() + b'\0'),
+    (2, 'first node of depth 1', sheet(node(TILE, depth=1))),
+    (2, 'ids that do not rise', sheet(node(TILE, text('Result', b'a'), text('In', b'b')))),
+    (2, 'text that is not UTF-8', sheet(node(TILE, text('In', b'\xed\xa0\x80')))),
+    (2, 'unit 255 on a child', sheet(node(TILE, length('X', 0, ABSENT)))),
+    (2, 'layout and a number, both bad', sheet(node(TILE, number('Seed', NAN)), gap=1)),
+    # 3: numbers, used or not
+    (3, 'seed NaN on a tile', sheet(node(TILE, number('Seed', NAN)))),
+    (3, 'length beyond f32', sheet(node(TILE, length('X', 1e39)))),
+    (3, 'box without a width', sheet(tile, box=(0, 0, 0, 1))),
+    (3, 'view box of the largest f32', sheet(tile, view_box=(LARGEST, 1))),
+    (3, 'dpi -0', sheet(tile, dpi=-0.0)),
+    (3, 'font size below 0', sheet(node(TILE, font_size=-1))),
+    (0, 'font size -0', sheet(node(TILE, font_size=-0.0))),
+    (3, 'flood-opacity -0', sheet(node(FLOOD, number('FloodOpacity', -0.0)))),
+    (3, 'flood-opacity above 1', sheet(node(FLOOD, number('FloodOpacity', 1.5)))),
+    (3, 'number and feImage, both bad', sheet(node(IMAGE, number('Seed', NAN)))),
+    # 4: feImage
+    (4, 'feImage', sheet(node(IMAGE))),
+    (4, 'feImage behind the end of the chain', sheet(tile, node(TILE, length('Width', 0)), node(IMAGE))),
+    (0, 'feImage below feMerge', sheet(node(MERGE), node(IMAGE, depth=1))),
+    (4, 'feImage and no filter region', sheet(node(IMAGE), region=(0, 0, 0, 1))),
+    # 5: the filter region
+    (5, 'filter region without a width', sheet(tile, region=(0, 0, 0, 1))),
+    (5, 'box units for the filter without a box', sheet(tile, units=(BOX, USER))),
+    (5, 'default units for the filter without a box', sheet(tile, units=(DEFAULT, DEFAULT))),
+    (5, 'no filter region and no node', sheet(region=(0, 0, 0, 1))),
+    # 6: what cannot be placed, and products that are not finite
+    (6, 'filter region that cannot be placed', sheet(tile, units=(BOX, USER), box=(0, 0, 3e38, 1))),
+    (6, 'filter region that cannot be placed, and no node', sheet(units=(BOX, USER), box=(0, 0, 3e38, 1))),
+    (6, 'child that cannot be placed', sheet(tile, node(TILE, length('Width', 3e38)), units=(USER, BOX), box=(0, 0, 1, 1))),
+    (6, 'unsupported child that cannot be placed', sheet(tile, node(UNSUPPORTED, length('Width', 3e38)), units=(USER, BOX), box=(0, 0, 1, 1))),
+    (0, 'the same behind the end of the chain',
+     sheet(tile, node(TILE, length('Width', 0)), node(TILE, length('Width', 3e38)), units=(USER, BOX), box=(0, 0, 1, 1))),
+    (6, 'radius product that is not finite', sheet(node(tag('FeMorphology'), numbers('Radius', [2, 1])), **wide)),
+    (0, 'radius product that is not taken', sheet(node(tag('FeMorphology'), numbers('Radius', [2, -1])), **wide)),
+    (6, 'displacement in a box of no finite width + height', sheet(node(tag('FeDisplacementMap')), units=(USER, BOX), box=(0, 0, 3e38, 3e38))),
+    # 8: no primitive
+    (8, 'no node', sheet()),
+    (8, 'box units for primitives without a box', sheet(tile, units=(USER, BOX))),
+    (8, 'chain that ends at its first child', sheet(node(TILE, length('Width', 0)), tile)),
+    (8, 'unsupported and tagless children alone', sheet(node(UNSUPPORTED), node(0))),
+    # 9: the list's size
+    (9, 'list of 65,537 bytes', merge_list(196, 328, b'mergers+')),
+    (0, 'list of 65,536 bytes', merge_list(196, 328, b'mergers')),
+    (9, 'merge of 510 inputs', merge_list(255, 510, b'')),
+]
+
+
+def main():
+    for expected, name, data in CASES:
+        name = name.encode()
+        sys.stdout.buffer.write(struct.pack('<BBHI', len(name), expected, 0, len(data)) + name + data)
+
+
+main()
