@@ -46,7 +46,7 @@ enum zatongae_number {
     ZATONGAE_NO_REGION = 5,      /* no filter region: not a rectangle, or in box units without a box */
     ZATONGAE_NOT_PLACED = 6,     /* placing the filter region or a child makes no rectangle; a radius product is not finite; or, for feDisplacementMap in
                                     box units, box width + height is not finite */
-    ZATONGAE_BASE_FREQUENCY = 7, /* a base frequency positive in sign but not finite; 3 is tested before and leaves none (read, not proved) */
+    ZATONGAE_BASE_FREQUENCY = 7, /* a base frequency positive in sign but not finite. No call answers it, since 3 comes before: that is proved */
     ZATONGAE_NO_PRIMITIVE = 8,   /* no child makes a primitive; box units for primitives without a box make none */
     ZATONGAE_NO_ROOM = 9         /* the output is shorter than the list */
 };

@@ -14,7 +14,7 @@ use Rattle.kinds.specs.Child.{Child}
 use Rattle.units.specs.declared.Frame.{Frame}
 use Rattle.region.specs.declared.Subregion.{Subregion}
 use Rattle.region.specs.declared.Subregion.the-variants as region
-use Rattle.region.specs.Subregions.{regionOf}
+use Rattle.region.specs.Subregions.{regionOf, subregionNumber}
 use Rattle.fe_color.specs.Interpolation.{colorInterpolationOf}
 use Rattle.filter.specs.Elements.{Made, made, unsupported, kindOf}
 use Rattle.filter.specs.Elements as element
@@ -34,11 +34,15 @@ kindStep n r unsupported = pass
 kindStep n r element.six = six
 kindStep n r element.seven = seven
 
+-- the refusal of this number
+abbrev pub refusedStep : ℕ → Step
+refusedStep number = cond (eqb number 7) seven six
+
 -- the region is tried before the kind: an unsupported tag without a subregion ends the chain too
 abbrev pub regionStep : Frame → Node → List Node → Subregion → Step
 regionStep frame n children (region.Is r) = kindStep n r (kindOf frame n children)
 regionStep frame n children region.Ends = end
-regionStep frame n children region.Unplaced = six
+regionStep frame n children region.Unplaced = refusedStep (subregionNumber region.Unplaced)
 
 -- a node and the nodes after it; a node of depth 1 belongs to the child before it, and one without a tag is passed over before all else
 unfoldable pub stepOf : Frame → Node → List Node → Step

@@ -24,9 +24,9 @@ use Rattle.fe_blur.specs.Floods.{floodOf, transparentBlack}
 use Rattle.fe_blur.specs.Offsets.{offsetFieldsOf, dropShadowOf}
 use Rattle.fe_light.specs.Lighting.{diffuseLightingOf, specularLightingOf}
 use Rattle.fe_kernel.specs.Convolution.{convolveMatrixOf}
-use Rattle.fe_shape.specs.Morphologies.{morphologyOf}
-use Rattle.fe_shape.specs.Displacements.{displacementMapOf}
-use Rattle.fe_shape.specs.Turbulences.{turbulenceOf}
+use Rattle.fe_shape.specs.Morphologies.{morphologyOf, morphologyNumber}
+use Rattle.fe_shape.specs.Displacements.{displacementMapOf, displacementNumber}
+use Rattle.fe_shape.specs.Turbulences.{turbulenceOf, turbulenceNumber}
 use Rattle.fe_shape.specs.declared.MaybeMorphology.{MaybeMorphology}
 use Rattle.fe_shape.specs.declared.MaybeMorphology.the-variants as morphology
 use Rattle.fe_shape.specs.declared.MaybeDisplacementMap.{MaybeDisplacementMap}
@@ -65,19 +65,23 @@ abbrev pub convolveMade : Node → Option ConvolveMatrixFields → Made
 convolveMade n (some v) = made (ConvolveMatrix (inOf n) v)
 convolveMade n none = flood
 
+-- the refusal of this number
+abbrev pub refusedWith : ℕ → Made
+refusedWith number = cond (eqb number 7) seven six
+
 -- a radius product that is not finite is 6, and so is box width + height for a displacement; a base frequency that is not finite is 7
 
 abbrev pub morphologyMade : Node → MaybeMorphology → Made
 morphologyMade n (morphology.Is v) = made (Morphology (inOf n) v)
-morphologyMade n morphology.RadiusNotFinite = six
+morphologyMade n morphology.RadiusNotFinite = refusedWith (morphologyNumber morphology.RadiusNotFinite)
 
 abbrev pub displacementMade : Node → MaybeDisplacementMap → Made
 displacementMade n (displacement.Is v) = made (DisplacementMap (inOf n) (in2Of n) v)
-displacementMade n displacement.BoxNotFinite = six
+displacementMade n displacement.BoxNotFinite = refusedWith (displacementNumber displacement.BoxNotFinite)
 
 abbrev pub turbulenceMade : MaybeTurbulence → Made
 turbulenceMade (turbulence.Is v) = made (Turbulence v)
-turbulenceMade turbulence.FrequencyNotFinite = seven
+turbulenceMade turbulence.FrequencyNotFinite = refusedWith (turbulenceNumber turbulence.FrequencyNotFinite)
 
 infixl 6 _gives_
 -- a tag, and what an element with that tag gives

@@ -152,21 +152,23 @@ above-plus (inf true) e = absurd (true≢false (sym e))
 above-plus (fin false m k) e = tt
 above-plus (fin true m k) e = absurd (true≢false (sym e))
 
-abbrev AllSound : List Tagged → Type 0
-AllSound [] = Unit {0}
-AllSound ((t gives m) ∷ rest) = MadeSound m × AllSound rest
+-- what holds of everything that the tags of a table give, and of a tag without a primitive, holds of what any tag gives
+module _ (P : Made → Type 0) (other : P unsupported) where
+  abbrev pub All : List Tagged → Type 0
+  All [] = Unit {0}
+  All ((t gives m) ∷ rest) = P m × All rest
 
-either : (b : Bool) (x y : Made) → MadeSound x → MadeSound y → MadeSound (cond b x y)
-either true x y h k = h
-either false x y h k = k
+  either : (b : Bool) (x y : Made) → P x → P y → P (cond b x y)
+  either true x y h k = h
+  either false x y h k = k
 
-by-tag : (xs : List Tagged) (tag : ℕ) → AllSound xs → MadeSound (byTag xs tag)
-unfolding byTag
-by-tag [] tag h = tt
-by-tag ((t gives m) ∷ rest) tag h = either (eqb tag t) m (byTag rest tag) (h .0) (by-tag rest tag (h .1))
+  pub by-tag : (xs : List Tagged) (tag : ℕ) → All xs → P (byTag xs tag)
+  unfolding byTag
+  by-tag [] tag h = other
+  by-tag ((t gives m) ∷ rest) tag h = either (eqb tag t) m (byTag rest tag) (h .0) (by-tag rest tag (h .1))
 
 infixr 5 _and_
-_and_ : {A B : Type 0} → A → B → A × B
+pub _and_ : {A B : Type 0} → A → B → A × B
 a and b = (a, b)
 
 module _ (f : Frame) (n : Node) (children : List Node) (p : Positive (scaleOf f)) (ok : FloodOk n) where
@@ -195,7 +197,7 @@ module _ (f : Frame) (n : Node) (children : List Node) (p : Positive (scaleOf f)
       let r = flood-range n (ok .alpha) (ok .opacity) in
       record { numbers = opacity-num (floodOf n .opacity) (r .opacity) and tt; ranges = r }
 
-  elements-sound : AllSound (elements f n children)
+  elements-sound : All MadeSound tt (elements f n children)
   elements-sound =
       let scale = scaleOf f in
       let w = above-plus (scale .width) (p .width-positive) in
@@ -220,4 +222,4 @@ module _ (f : Frame) (n : Node) (children : List Node) (p : Positive (scaleOf f)
 
   pub kind-sound : MadeSound (kindOf f n children)
   unfolding kindOf
-  kind-sound = by-tag (elements f n children) (n .tag) elements-sound
+  kind-sound = by-tag MadeSound tt (elements f n children) (n .tag) elements-sound

@@ -1,2 +1,3 @@
 pub mod KindNumbers
 pub mod Sound
+pub mod NeverSeven
