@@ -1,20 +1,27 @@
 -- The test of the code is that of the definition. Assumes nothing.
-use mathlib.Core.Path.{sym, _∙_}
+use mathlib.Core.Path.{sym, ap, _∙_}
+use mathlib.Core.Bool.{Bool, cond}
+use lib.Ieee.{Float, binary32, mul}
+use Rattle.num.specs.Narrowed.{plusZero}
 use Rattle.fe_blur.specs.Deviations.{deviation}
 use borrow.Author.Needs.{needs}
 use Rattle.fe_blur.proofs.scaled_deviation.Statement.{statement}
 use Rattle.fe_blur.proofs.scaled_deviation.Tie as tie
+
+-- the scaled number, or 0, by what the test said of it
+abbrev chosen : Float → Float → Bool → Float
+chosen n scale b = cond b (mul binary32 n scale) plusZero
 
 is-positive-requires : tie.Need-is-positive-requires
 is-positive-requires c κs = search needs
 
 returns : tie.Need-returns
 unfolding deviation
-returns c = simp (sym (c .before .is-positive .ensures) ∙ c .if1 .taken)
+returns c = sym (ap (chosen (c .before .before .args .n) (c .before .before .args .scale)) (sym (c .before .is-positive .ensures) ∙ c .if1 .taken))
 
 returns-2 : tie.Need-returns-2
 unfolding deviation
-returns-2 c = simp (sym (c .before .is-positive .ensures) ∙ c .if1 .left)
+returns-2 c = sym (ap (chosen (c .before .before .args .n) (c .before .before .args .scale)) (sym (c .before .is-positive .ensures) ∙ c .if1 .left))
 
 pub scaled-deviation-spec : {M : Type 1} → statement M
 scaled-deviation-spec = tie.close (tie.spec is-positive-requires returns returns-2)
