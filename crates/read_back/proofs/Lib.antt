@@ -1,0 +1,4 @@
+pub mod Same
+pub mod Walks
+pub mod ReadBack
+pub mod Claims
