@@ -8,7 +8,7 @@ use lib.Dec.{eqb}
 use borrow.Author.Tests.{le-leb, lt-leb, ne-eqb}
 use lib.Ieee.{Float}
 use Rattle.svgtree.specs.Parse.{double}
-use Rattle.layout.specs.Tests.{all}
+use Rattle.sheet_layout.specs.Tests.{all}
 use Rattle.sheet_check.specs.Numbers.{doubleOk}
 use Rattle.functions.specs.Records.{Function, dropShadow, ofAmount, functionBy, givenShadow}
 use Rattle.functions.specs.Refusals.{numbersIn}

@@ -7,8 +7,8 @@ use Rattle.bits.specs.Bytes.{le32, le64, bytesFrom, bytes16, bytes32}
 use Rattle.num.specs.Narrowed.{plusZero, orZero, narrowed}
 use Rattle.geom.specs.Geometry.{validLength, viewBoxLength}
 use Rattle.svgtree.specs.Parse.{unitOf}
-use Rattle.layout.specs.Layout.{markedOk}
-use Rattle.layout.specs.Tests.{all}
+use Rattle.sheet_layout.specs.Layout.{markedOk}
+use Rattle.sheet_layout.specs.Tests.{all}
 use Rattle.sheet_check.specs.Numbers.{doubleOk}
 use Rattle.units.specs.Lengths.{convertLength}
 use Rattle.fe_blur.specs.Floods.{alphaOpacity}

@@ -8,8 +8,8 @@ use lib.Ieee.{Float}
 use Rattle.bits.specs.Bytes.{bytesFrom}
 use Rattle.num.specs.Sign.{positive}
 use Rattle.geom.specs.Geometry.{validLength, viewBoxLength}
-use Rattle.layout.specs.Layout.{markedOk}
-use Rattle.layout.specs.Tests.{all}
+use Rattle.sheet_layout.specs.Layout.{markedOk}
+use Rattle.sheet_layout.specs.Tests.{all}
 use Rattle.sheet_check.specs.Numbers.{doubleOk}
 use Rattle.tree.specs.List.{kindBytes}
 use Rattle.functions.specs.Records.{Function, FunctionRecord, grayscale, sepia, saturate, hueRotate, invert, opacity, brightness, contrast, blur, dropShadow, codeOf, recordOf}

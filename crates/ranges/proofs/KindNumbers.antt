@@ -16,10 +16,10 @@ use Rattle.num.proofs.Laws.{finite-num, plus}
 use Rattle.geom.specs.Geometry as geometry
 use Rattle.svgtree.specs.Values.{Node}
 use Rattle.tree.specs.Kinds.{Kind, Blend, ColorMatrix, ComponentTransfer, Composite, ConvolveMatrix, DiffuseLighting, DisplacementMap, DropShadow, Flood, GaussianBlur, Image, Merge, Morphology, Offset, SpecularLighting, Tile, Turbulence, ConvolveMatrixFields, mapKind}
-use Rattle.kinds.specs.Means.{inOf}
+use Rattle.child.specs.Means.{inOf}
 use Rattle.units.specs.declared.Frame.{Frame}
-use Rattle.region.specs.Subregions.{scaleOf}
-use Rattle.region.proofs.Numbers.{Positive}
+use Rattle.subregion.specs.Subregions.{scaleOf}
+use Rattle.subregion.proofs.Numbers.{Positive}
 use Rattle.fe.specs.Attributes.{one, numberOr}
 use Rattle.fe_blur.specs.Deviations.{gaussianBlurOf}
 use Rattle.fe_blur.specs.Floods.{floodColor, floodOf, transparentBlack}
@@ -53,7 +53,7 @@ use Rattle.fe_shape.specs.Displacements.{displacementMapOf}
 use Rattle.fe_shape.specs.Turbulences.{turbulenceOf}
 use Rattle.fe_shape.specs.Ranges.{MorphologyOk, DisplacementMapOk, TurbulenceOk}
 use Rattle.fe_shape.proofs.Ranges.{morphology-ok, displacement-map-ok, turbulence-ok}
-use Rattle.filter.specs.Elements.{Made, made, unsupported, six, seven, Tagged, _gives_, byTag, elements, kindOf, convolveMade, diffuseMade, specularMade, morphologyMade, displacementMade, turbulenceMade}
+use Rattle.chain.specs.Elements.{Made, made, unsupported, six, seven, Tagged, _gives_, byTag, elements, kindOf, convolveMade, diffuseMade, specularMade, morphologyMade, displacementMade, turbulenceMade}
 use Rattle.ranges.specs.Numbers.{kindNumbers, InRange}
 
 -- ---- lists of numbers

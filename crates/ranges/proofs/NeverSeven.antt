@@ -19,9 +19,9 @@ use Rattle.svgtree.specs.Values.{Node}
 use Rattle.svgtree.specs.Readers.{lookup, numbersOf, childNodes}
 use Rattle.tree.specs.Kinds.{ConvolveMatrixFields}
 use Rattle.units.specs.declared.Frame.{Frame}
-use Rattle.region.specs.declared.Subregion.{Subregion}
-use Rattle.region.specs.declared.Subregion.the-variants as region
-use Rattle.region.specs.Subregions.{regionOf, scaleOf}
+use Rattle.subregion.specs.declared.Subregion.{Subregion}
+use Rattle.subregion.specs.declared.Subregion.the-variants as region
+use Rattle.subregion.specs.Subregions.{regionOf, scaleOf}
 use Rattle.fe.proofs.Numbers.{ListFinite, list-finite}
 use Rattle.fe_shape.specs.Pairs.{both, pairIn, signsClear, ifPositive}
 use Rattle.fe_shape.specs.Morphologies.{morphologyOf}
@@ -43,9 +43,9 @@ use Rattle.fe_light.specs.declared.MaybeSpecularLighting.{MaybeSpecularLighting
 use Rattle.fe_light.specs.declared.MaybeSpecularLighting.the-variants as specular
 use Rattle.fe_light.specs.Lighting.{diffuseLightingOf, specularLightingOf}
 use Rattle.fe_kernel.specs.Convolution.{convolveMatrixOf}
-use Rattle.filter.specs.Elements.{Made, made, unsupported, six, seven, elements, kindOf, convolveMade, diffuseMade, specularMade, morphologyMade, displacementMade, turbulenceMade}
-use Rattle.filter.specs.Chain as chain
-use Rattle.filter.specs.Chain.{Step, pass, end, count, kindStep, regionStep, stepOf, Chain, refusedSix, refusedSeven, kept, put, follow}
+use Rattle.chain.specs.Elements.{Made, made, unsupported, six, seven, elements, kindOf, convolveMade, diffuseMade, specularMade, morphologyMade, displacementMade, turbulenceMade}
+use Rattle.chain.specs.Chain as chain
+use Rattle.chain.specs.Chain.{Step, pass, end, count, kindStep, regionStep, stepOf, Chain, refusedSix, refusedSeven, kept, put, follow}
 use Rattle.ranges.proofs.KindNumbers.{by-tag, _and_}
 
 -- ---- base frequencies

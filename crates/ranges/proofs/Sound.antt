@@ -18,8 +18,8 @@ use Rattle.geom.proofs.Rectangles.{Numbers}
 use Rattle.svgtree.specs.Values.{Value, absent, textValue, numberValue, numbersValue, lengthValue, colorValue, triesValue, Attribute, Node}
 use Rattle.svgtree.specs.Readers.{numberIn, lookup, childNodes}
 use Rattle.svgtree.specs.Parse.{countOf, offsetOf, nodeAt, nodesFrom, headerOf, sheetOf}
-use Rattle.layout.specs.Tests.{all}
-use Rattle.layout.specs.Layout.{layoutOk}
+use Rattle.sheet_layout.specs.Tests.{all}
+use Rattle.sheet_layout.specs.Layout.{layoutOk}
 use Rattle.sheet_check.specs.Numbers.{valueNumbersOk, opacityOk, attributeNumbersOk, nodeNumbersOk, headerNumbersOk, numbersOk}
 use Rattle.sheet_check.specs.Refusals.{noImage, tooLarge, firstRefusal}
 use Rattle.sheet_check.specs.declared.Refusal.the-variants.{None, TooLarge, Malformed, BadNumber, Image}
@@ -28,22 +28,22 @@ use Rattle.units.specs.declared.FilterRegion.the-variants as filter-region
 use Rattle.units.specs.Region.{filterRegionOf, frameOf}
 use Rattle.units.proofs.Lengths.{zero-one}
 use Rattle.units.proofs.Regions.{SoundFrame, frame-sound}
-use Rattle.region.specs.declared.Subregion.{Subregion}
-use Rattle.region.specs.declared.Subregion.the-variants as region
-use Rattle.region.specs.Subregions.{regionOf}
-use Rattle.region.proofs.Numbers.{subregion-numbers, scale-positive}
+use Rattle.subregion.specs.declared.Subregion.{Subregion}
+use Rattle.subregion.specs.declared.Subregion.the-variants as region
+use Rattle.subregion.specs.Subregions.{regionOf}
+use Rattle.subregion.proofs.Numbers.{subregion-numbers, scale-positive}
 use Rattle.fe.specs.Attributes.{one}
 use Rattle.svgtree.specs.Readers.{orElse}
 use Rattle.fe_blur.proofs.Alpha.{flood-alpha}
 use Rattle.fe_color.specs.Ranges.{IsNumber, Each}
-use Rattle.kinds.specs.Child.{Child}
-use Rattle.filter.specs.Elements.{Made, made, unsupported, kindOf}
-use Rattle.filter.specs.Elements as element
-use Rattle.filter.specs.Chain.{Step, pass, end, six, seven, count, kindStep, regionStep, stepOf, Chain, refusedSix, refusedSeven, kept, put, follow, chain}
-use Rattle.filter.specs.Means.{chainFrom}
+use Rattle.child.specs.Child.{Child}
+use Rattle.chain.specs.Elements.{Made, made, unsupported, kindOf}
+use Rattle.chain.specs.Elements as element
+use Rattle.chain.specs.Chain.{Step, pass, end, six, seven, count, kindStep, regionStep, stepOf, Chain, refusedSix, refusedSeven, kept, put, follow, chain}
+use Rattle.chain.specs.Means.{chainFrom}
 use Rattle.naming.specs.Names.{Results, start, namesSoFar, after}
 use Rattle.naming.specs.Inputs.{resolve}
-use Rattle.list.specs.Primitives.{primitiveOf, primitivesFrom, primitives}
+use Rattle.list_primitives.specs.Primitives.{primitiveOf, primitivesFrom, primitives}
 use Rattle.ranges.specs.Numbers.{rectNumbers, kindNumbers, primitiveNumbers, listNumbers, AllInRange, Sound}
 use Rattle.ranges.proofs.KindNumbers.{each-append, KindSound, map-sound, MadeSound, FloodOk, kind-sound}
 

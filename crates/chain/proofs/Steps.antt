@@ -1,0 +1,45 @@
+-- Laws on elements and on the chain: an element goes by its tag, a node by its depth, tag and region, and the chain goes node by node. Assumes nothing.
+use mathlib.Core.Path.{_≡_, refl, ap, _∙_}
+use mathlib.Core.List.{List, [], _∷_}
+use Prim.Native.Nat.{ℕ, _+_, _-_, _<_}
+use native.Mathlib.Omega.{arith}
+use borrow.Author.Tests.{ne-eqb}
+use Rattle.svgtree.specs.Values.{Node}
+use Rattle.svgtree.specs.Readers.{childNodes}
+use Rattle.svgtree.specs.Parse.{countOf, nodeAt, nodesFrom}
+use Rattle.svgtree.proofs.Following.{nodes-none, nodes-step}
+use Rattle.units.specs.declared.Frame.{Frame}
+use Rattle.subregion.specs.Subregions.{regionOf}
+use Rattle.chain.specs.Elements.{elements, byTag, kindOf}
+use Rattle.chain.specs.Chain.{pass, kept, follow, regionStep, stepOf, chain}
+use Rattle.chain.specs.Means.{stepAt, chainFrom}
+
+module _ (frame : Frame) (n : Node) (rest : List Node) where
+  pub kind-tag : (t : ℕ) → n .tag ≡ t → kindOf frame n rest ≡ byTag (elements frame n rest) t
+  unfolding kindOf
+  kind-tag t e = ap (byTag (elements frame n rest)) e
+
+  pub step-depth : n .depth ≡ 1 → stepOf frame n rest ≡ pass
+  unfolding stepOf
+  step-depth e = rw e refl
+
+  pub step-tagless : (n .depth ≡ 1 → ⊥) → n .tag ≡ 0 → stepOf frame n rest ≡ pass
+  unfolding stepOf
+  step-tagless d e = rw (ne-eqb (n .depth) 1 d, e) refl
+
+  pub step-region : (n .depth ≡ 1 → ⊥) → (n .tag ≡ 0 → ⊥) → stepOf frame n rest ≡ regionStep frame n (childNodes rest) (regionOf frame n)
+  unfolding stepOf
+  step-region d e = rw (ne-eqb (n .depth) 1 d, ne-eqb (n .tag) 0 e) refl
+
+module _ (frame : Frame) (s : List ℕ) (i : ℕ) where
+  pub chain-step : i < countOf s → chainFrom frame s i ≡ follow (stepAt frame s i) (chainFrom frame s (i + 1))
+  unfolding chain
+  chain-step h =
+      let k : countOf s - i - 1 ≡ countOf s - (i + 1) = omega arith in
+      let p : nodesFrom s i (countOf s - i) ≡ nodeAt s i ∷ nodesFrom s (i + 1) (countOf s - (i + 1)) =
+      nodes-step s i (countOf s - i) (omega arith) ∙ ap (λ (m : ℕ). nodeAt s i ∷ nodesFrom s (i + 1) m) k in
+      ap (chain frame) p
+
+  pub chain-end : i ≡ countOf s → chainFrom frame s i ≡ kept []
+  unfolding chain
+  chain-end e = ap (chain frame) (nodes-none s i (countOf s - i) (omega arith))

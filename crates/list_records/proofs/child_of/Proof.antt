@@ -1,0 +1,75 @@
+-- A step that counts has its child; every other stands for none. Assumes nothing.
+use denote.Ref.{now}
+use mathlib.Core.Path.{sym, ap, _∙_}
+use Rattle.chain.specs.Means.{stepIs, stepEnd}
+use Rattle.chain.specs.declared.Step.{Step}
+use Rattle.list_records.specs.Tables.{childIn}
+use native.Mathlib.Omega.{arith}
+use borrow.Author.Needs.{needs}
+use Rattle.list_records.proofs.child_of.Statement.{statement}
+use Rattle.list_records.proofs.child_of.Tie as tie
+
+step-of-requires : tie.Need-step-of-requires
+step-of-requires c κs = search needs
+
+enum-known-step : tie.Need-enum-known-step
+enum-known-step c = search needs
+
+enum-told : tie.Need-enum-told
+enum-told c = search needs
+
+no-child-requires : tie.Need-no-child-requires
+no-child-requires c κs = search needs
+
+enum-told-2 : tie.Need-enum-told-2
+enum-told-2 c = search needs
+
+no-child-requires-2 : tie.Need-no-child-requires-2
+no-child-requires-2 c κs = search needs
+
+enum-told-3 : tie.Need-enum-told-3
+enum-told-3 c = search needs
+
+no-child-requires-3 : tie.Need-no-child-requires-3
+no-child-requires-3 c κs = search needs
+
+enum-told-4 : tie.Need-enum-told-4
+enum-told-4 c = search needs
+
+no-child-requires-4 : tie.Need-no-child-requires-4
+no-child-requires-4 c κs = search needs
+
+returns : tie.Need-returns
+returns c = (sym (ap (λ (x : Step). childIn (stepIs (now (c .before .before .before .before .before .args .s)) x)) (c .before .step .given .1)) ∙ ap childIn (c .before .before .before .step-of .ensures .0), omega (arith, c .before .before .before .step-of .ensures .1, ap stepEnd (c .before .step .given .1)))
+
+returns-2 : tie.Need-returns-2
+returns-2 c = (rw (← c .before .before .before .step-of .ensures .0, c .before .enum-told .given .1) (c .no-child .ensures .0), c .no-child .ensures .1)
+
+returns-3 : tie.Need-returns-3
+returns-3 c = (rw (← c .before .before .before .step-of .ensures .0, c .before .enum-told2 .given .1) (c .no-child2 .ensures .0), c .no-child2 .ensures .1)
+
+returns-4 : tie.Need-returns-4
+returns-4 c = (rw (← c .before .before .before .step-of .ensures .0, c .before .enum-told3 .given .1) (c .no-child3 .ensures .0), c .no-child3 .ensures .1)
+
+returns-5 : tie.Need-returns-5
+returns-5 c = (rw (← c .before .before .before .step-of .ensures .0, c .before .enum-told4 .given .1) (c .no-child4 .ensures .0), c .no-child4 .ensures .1)
+
+pub child-of-spec : {M : Type 1} → statement M
+child-of-spec =
+    tie.close
+    (tie.spec
+    step-of-requires
+    enum-known-step
+    enum-told
+    no-child-requires
+    enum-told-2
+    no-child-requires-2
+    enum-told-3
+    no-child-requires-3
+    enum-told-4
+    no-child-requires-4
+    returns
+    returns-2
+    returns-3
+    returns-4
+    returns-5)

@@ -1,0 +1,53 @@
+-- Laws on the records from a number on, one for each way in which a turn of a loop over them can go. Assumes nothing.
+use Prim.Native.Nat.{ℕ, suc, _+_, _-_, _<_}
+use native.Mathlib.Omega.{arith}
+use mathlib.Core.Path.{_≡_, ap}
+use mathlib.Core.List.{List, [], _∷_}
+use mathlib.Core.Bool.{Bool, true, cond, not, _&&_, _||_}
+use lib.ListN.{getD}
+use lib.Dec.{eqb}
+use Rattle.svgtree.specs.Parse.{pairOffset, pairLength, offsetOf}
+use Rattle.sheet_layout.specs.Tests.{all}
+use Rattle.sheet_layout.specs.Records.{recordAt, recordsFrom}
+use Rattle.sheet_layout.specs.Layout.{touch, recordOk, depthsOk}
+
+records-none : (s : List ℕ) (i n : ℕ) → n ≡ 0 → recordsFrom s i n ≡ []
+unfolding recordsFrom
+records-none s i n e = ap (λ (k : ℕ). recordsFrom s i k) e
+
+records-step : (s : List ℕ) (i n : ℕ) → i < n → recordsFrom s i (n - i) ≡ recordAt s i ∷ recordsFrom s (i + 1) (n - (i + 1))
+unfolding recordsFrom
+records-step s i n h =
+    let e : n - i ≡ suc (n - (i + 1)) = omega arith in
+    ap (λ (k : ℕ). recordsFrom s i k) e
+
+-- the records from number i on, of n
+module _ (s : List ℕ) (i n : ℕ) where
+  pub touch-step : (at end : ℕ) → i < n
+      → touch at end (recordsFrom s i (n - i))
+      ≡ (eqb (pairOffset s i) at && touch (at + pairLength s i) end (recordsFrom s (i + 1) (n - (i + 1))))
+  unfolding touch recordAt
+  touch-step at end h = ap (touch at end) (records-step s i n h)
+
+  pub touch-end : (at end : ℕ) → n - i ≡ 0 → touch at end (recordsFrom s i (n - i)) ≡ eqb at end
+  unfolding touch
+  touch-end at end h = ap (touch at end) (records-none s i (n - i) h)
+
+  pub records-ok-step : i < n → all recordOk (recordsFrom s i (n - i)) ≡ (recordOk (recordAt s i) && all recordOk (recordsFrom s (i + 1) (n - (i + 1))))
+  unfolding all
+  records-ok-step h = ap (all recordOk) (records-step s i n h)
+
+  pub records-ok-end : n - i ≡ 0 → all recordOk (recordsFrom s i (n - i)) ≡ true
+  unfolding all
+  records-ok-end h = ap (all recordOk) (records-none s i (n - i) h)
+
+  pub depths-step : (t : Bool) → i < n
+      → depthsOk t (recordsFrom s i (n - i))
+      ≡ ((eqb (getD s (offsetOf s i) 0) 0 || t)
+      && depthsOk (cond (eqb (getD s (offsetOf s i) 0) 0) (not (eqb (getD s (offsetOf s i + 1) 0) 0)) t) (recordsFrom s (i + 1) (n - (i + 1))))
+  unfolding depthsOk recordAt
+  depths-step t h = ap (depthsOk t) (records-step s i n h)
+
+  pub depths-end : (t : Bool) → n - i ≡ 0 → depthsOk t (recordsFrom s i (n - i)) ≡ true
+  unfolding depthsOk
+  depths-end t h = ap (depthsOk t) (records-none s i (n - i) h)

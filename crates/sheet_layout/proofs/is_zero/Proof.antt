@@ -1,0 +1,71 @@
+-- Invariant: the test of all bytes is the test of those that are left. Assumes nothing.
+use Prim.Native.Nat.{_+_, _≤_}
+use Rattle.sheet_layout.specs.Tests.{zeros}
+use Rattle.sheet_layout.proofs.Runs.{zeros-none, zeros-step}
+use borrow.Author.Needs.{needs}
+use mathlib.Core.Path.{_∙_, _≡_, sym}
+use native.Mathlib.Omega.{arith}
+use Rattle.bits.specs.Bytes.{bytesFrom}
+use borrow.Author.Tests.{eq-eqb, ne-eqb}
+use lib.Dec.{eqb}
+use mathlib.Core.Bool.{false, true}
+use lib.ListN.{getD}
+use denote.Ref.{now}
+use Rattle.sheet_layout.proofs.is_zero.Statement.{statement}
+use Rattle.sheet_layout.proofs.is_zero.Tie as tie
+
+abbrev Inv-loop : tie.InvT-loop
+Inv-loop s from n at₀ left₀ at left = (at + left ≤ from + n) × (zeros (bytesFrom s from n) ≡ zeros (bytesFrom s at left))
+
+abbrev μ-loop : tie.MeasureT-loop
+μ-loop s from n at₀ left₀ at left = left
+
+loop-holds : tie.Need-loop-holds Inv-loop μ-loop
+loop-holds c = search needs
+
+byte-requires : tie.Need-byte-requires Inv-loop μ-loop
+byte-requires c κs = search needs
+
+returns : tie.Need-returns Inv-loop μ-loop
+returns c =
+    let l = c .before .before .before .loop in
+    let s = now (c .before .before .before .before .before .args .s) in
+    let z : eqb (getD s (l .at) 0) 0 ≡ false = ne-eqb _ _ (λ e. c .if1 .taken (c .before .byte .ensures ∙ e)) in
+    sym (l .inv .1 ∙ zeros-step s (l .at) (l .left) (omega arith) ∙ rw z)
+
+add-at : tie.Need-add-at Inv-loop μ-loop
+add-at c = search needs
+
+sub-left : tie.Need-sub-left Inv-loop μ-loop
+sub-left c = search needs
+
+loop-less : tie.Need-loop-less Inv-loop μ-loop
+loop-less c = search needs
+
+loop-again : tie.Need-loop-again Inv-loop μ-loop
+loop-again c =
+    let l = c .before .before .before .loop in
+    let s = now (c .before .before .before .before .before .args .s) in
+    let z : eqb (getD s (l .at) 0) 0 ≡ true = eq-eqb _ _ (sym (c .before .byte .ensures) ∙ c .if1 .left) in
+    (search needs, l .inv .1 ∙ zeros-step s (l .at) (l .left) (omega arith) ∙ rw z)
+
+returns-2 : tie.Need-returns-2 Inv-loop μ-loop
+returns-2 c =
+    let l = c .before .loop in
+    let z : l .left ≡ 0 = omega arith in
+    sym (l .inv .1 ∙ zeros-none (now (c .before .before .before .args .s)) (l .at) (l .left) z)
+
+pub is-zero-spec : {M : Type 1} → statement M
+is-zero-spec =
+    tie.close
+    (tie.spec
+    Inv-loop
+    μ-loop
+    loop-holds
+    byte-requires
+    returns
+    add-at
+    sub-left
+    loop-less
+    loop-again
+    returns-2)

@@ -1,0 +1,128 @@
+-- Invariant: all records touch exactly if those that are left do, from the end of the last one on. Assumes nothing.
+use Prim.Native.Nat.{_*_, _+_, _-_, _≤_, ℕ}
+use mathlib.Core.Path.{_∙_, _≡_, ap₂, sym}
+use Rattle.svgtree.specs.Parse.{countOf, pairLength, pairOffset}
+use Rattle.sheet_layout.specs.Records.{recordsFrom}
+use Rattle.sheet_layout.specs.Layout.{touch}
+use Rattle.sheet_layout.proofs.Following.{touch-end, touch-step}
+use borrow.Author.Needs.{needs}
+use native.Mathlib.Omega.{arith}
+use borrow.Author.Tests.{eq-eqb, ne-eqb}
+use lib.ListN.{length}
+use denote.Ref.{now}
+use Rattle.sheet_layout.proofs.records_touch.Statement.{statement}
+use Rattle.sheet_layout.proofs.records_touch.Tie as tie
+
+abbrev Inv-loop : tie.InvT-loop
+Inv-loop s n at₀ i₀ at i = (i ≤ n) × (n ≡ countOf s) × (at ≤ 600000 + i * 4294967296) × (touch (74 + 8 * countOf s) (length s) (recordsFrom s 0 (countOf s)) ≡ touch at (length s) (recordsFrom s i (n - i)))
+
+abbrev μ-loop : tie.MeasureT-loop
+μ-loop s n at₀ i₀ at i = n - i
+
+node-count-requires : tie.Need-node-count-requires Inv-loop μ-loop
+node-count-requires c κs = search needs
+
+wide16-requires : tie.Need-wide16-requires Inv-loop μ-loop
+wide16-requires c κs = search needs
+
+mul-at : tie.Need-mul-at Inv-loop μ-loop
+mul-at c = search needs
+
+add-at : tie.Need-add-at Inv-loop μ-loop
+add-at c = search needs
+
+loop-holds : tie.Need-loop-holds Inv-loop μ-loop
+loop-holds c =
+    let s = now (c .before .before .before .args .s) in
+    let e : countOf s ≡ c .before .node-count .result - 0 = omega arith in
+    let f : 74 + 8 * countOf s ≡ 74 + 8 * c .wide16 .result = omega arith in
+    (search needs, search needs, search needs, ap₂ (λ (a k : ℕ). touch a (length s) (recordsFrom s 0 k)) f e)
+
+wide16-requires-2 : tie.Need-wide16-requires-2 Inv-loop μ-loop
+wide16-requires-2 c κs = search needs
+
+mul-get32 : tie.Need-mul-get32 Inv-loop μ-loop
+mul-get32 c = search needs
+
+add-get32 : tie.Need-add-get32 Inv-loop μ-loop
+add-get32 c = search needs
+
+get32-requires : tie.Need-get32-requires Inv-loop μ-loop
+get32-requires c κs = search needs
+
+wide32-requires : tie.Need-wide32-requires Inv-loop μ-loop
+wide32-requires c κs = search needs
+
+returns : tie.Need-returns Inv-loop μ-loop
+returns c =
+    let l = c .before .before .before .before .before .loop in
+    let s = now (c .before .before .before .before .before .before .before .before .before .args .s) in
+    let p = rw (c .before .before .before .wide162 .ensures .0) at (c .before .before .get32 .ensures) in
+    sym (l .inv .3 ∙ touch-step s (l .i) (c .before .before .before .before .before .before .before .node-count .result) (l .at) (length s) (omega arith) ∙ simp (ne-eqb (pairOffset s (l .i)) (l .at) (λ q. c .if1 .taken (c .before .wide32 .ensures .0 ∙ p ∙ q))))
+
+wide16-requires-3 : tie.Need-wide16-requires-3 Inv-loop μ-loop
+wide16-requires-3 c κs = search needs
+
+mul-get32-2 : tie.Need-mul-get32-2 Inv-loop μ-loop
+mul-get32-2 c = search needs
+
+add-get32-2 : tie.Need-add-get32-2 Inv-loop μ-loop
+add-get32-2 c = search needs
+
+get32-requires-2 : tie.Need-get32-requires-2 Inv-loop μ-loop
+get32-requires-2 c κs = search needs
+
+wide32-requires-2 : tie.Need-wide32-requires-2 Inv-loop μ-loop
+wide32-requires-2 c κs = search needs
+
+add-at-2 : tie.Need-add-at-2 Inv-loop μ-loop
+add-at-2 c = search needs
+
+add-i : tie.Need-add-i Inv-loop μ-loop
+add-i c = search needs
+
+loop-less : tie.Need-loop-less Inv-loop μ-loop
+loop-less c = search needs
+
+loop-again : tie.Need-loop-again Inv-loop μ-loop
+loop-again c =
+    let l = c .before .before .before .before .before .before .before .before .loop in
+    let s = now (c .before .before .before .before .before .before .before .before .before .before .before .before .args .s) in
+    let e : pairOffset s (l .i) ≡ l .at = sym (c .before .before .before .before .wide32 .ensures .0 ∙ rw (c .before .before .before .before .before .before .wide162 .ensures .0) at (c .before .before .before .before .before .get32 .ensures)) ∙ c .before .before .before .if1 .left in
+    let q : pairLength s (l .i) ≡ c .wide322 .result = sym (c .wide322 .ensures .0 ∙ rw (c .before .before .wide163 .ensures .0) at (c .before .get322 .ensures)) in
+    (search needs, search needs, search needs, l .inv .3 ∙ touch-step s (l .i) (c .before .before .before .before .before .before .before .before .before .before .node-count .result) (l .at) (length s) (omega arith) ∙ rw (eq-eqb (pairOffset s (l .i)) (l .at) e, q))
+
+returns-2 : tie.Need-returns-2 Inv-loop μ-loop
+returns-2 c =
+    let l = c .before .loop in
+    let s = now (c .before .before .before .before .before .args .s) in
+    let z : c .before .before .before .node-count .result - l .i ≡ 0 = omega arith in
+    sym (l .inv .3 ∙ touch-end s (l .i) (c .before .before .before .node-count .result) (l .at) (length s) z)
+
+pub records-touch-spec : {M : Type 1} → statement M
+records-touch-spec =
+    tie.close
+    (tie.spec
+    Inv-loop
+    μ-loop
+    node-count-requires
+    wide16-requires
+    mul-at
+    add-at
+    loop-holds
+    wide16-requires-2
+    mul-get32
+    add-get32
+    get32-requires
+    wide32-requires
+    returns
+    wide16-requires-3
+    mul-get32-2
+    add-get32-2
+    get32-requires-2
+    wide32-requires-2
+    add-at-2
+    add-i
+    loop-less
+    loop-again
+    returns-2)
