@@ -11,60 +11,6 @@ use borrow.Author.Needs.{needs}
 use Rattle.chain.proofs.kind_of.Statement.{statement}
 use Rattle.chain.proofs.kind_of.Tie as tie
 
-scale-requires : tie.Need-scale-requires
-scale-requires c κs = search needs
-
-tag-requires : tie.Need-tag-requires
-tag-requires c κs = search needs
-
-make-drop-shadow-requires : tie.Need-make-drop-shadow-requires
-make-drop-shadow-requires c κs = search needs
-
-make-gaussian-blur-requires : tie.Need-make-gaussian-blur-requires
-make-gaussian-blur-requires c κs = search needs
-
-make-offset-requires : tie.Need-make-offset-requires
-make-offset-requires c κs = search needs
-
-make-blend-requires : tie.Need-make-blend-requires
-make-blend-requires c κs = search needs
-
-make-flood-requires : tie.Need-make-flood-requires
-make-flood-requires c κs = search needs
-
-make-composite-requires : tie.Need-make-composite-requires
-make-composite-requires c κs = search needs
-
-make-merge-requires : tie.Need-make-merge-requires
-make-merge-requires c κs = search needs
-
-make-tile-requires : tie.Need-make-tile-requires
-make-tile-requires c κs = search needs
-
-make-component-transfer-requires : tie.Need-make-component-transfer-requires
-make-component-transfer-requires c κs = search needs
-
-make-color-matrix-requires : tie.Need-make-color-matrix-requires
-make-color-matrix-requires c κs = search needs
-
-make-convolve-matrix-requires : tie.Need-make-convolve-matrix-requires
-make-convolve-matrix-requires c κs = search needs
-
-make-morphology-requires : tie.Need-make-morphology-requires
-make-morphology-requires c κs = search needs
-
-make-displacement-map-requires : tie.Need-make-displacement-map-requires
-make-displacement-map-requires c κs = search needs
-
-make-turbulence-requires : tie.Need-make-turbulence-requires
-make-turbulence-requires c κs = search needs
-
-make-diffuse-lighting-requires : tie.Need-make-diffuse-lighting-requires
-make-diffuse-lighting-requires c κs = search needs
-
-make-specular-lighting-requires : tie.Need-make-specular-lighting-requires
-make-specular-lighting-requires c κs = search needs
-
 returns : tie.Need-returns
 unfolding byTag
 returns c =
@@ -189,24 +135,24 @@ pub kind-of-spec : {M : Type 1} → statement M
 kind-of-spec =
     tie.close
     (tie.spec
-    scale-requires
-    tag-requires
-    make-drop-shadow-requires
-    make-gaussian-blur-requires
-    make-offset-requires
-    make-blend-requires
-    make-flood-requires
-    make-composite-requires
-    make-merge-requires
-    make-tile-requires
-    make-component-transfer-requires
-    make-color-matrix-requires
-    make-convolve-matrix-requires
-    make-morphology-requires
-    make-displacement-map-requires
-    make-turbulence-requires
-    make-diffuse-lighting-requires
-    make-specular-lighting-requires
+    (λ c κs. search needs)
+    (λ c κs. search needs)
+    (λ c κs. search needs)
+    (λ c κs. search needs)
+    (λ c κs. search needs)
+    (λ c κs. search needs)
+    (λ c κs. search needs)
+    (λ c κs. search needs)
+    (λ c κs. search needs)
+    (λ c κs. search needs)
+    (λ c κs. search needs)
+    (λ c κs. search needs)
+    (λ c κs. search needs)
+    (λ c κs. search needs)
+    (λ c κs. search needs)
+    (λ c κs. search needs)
+    (λ c κs. search needs)
+    (λ c κs. search needs)
     returns
     returns-2
     returns-3

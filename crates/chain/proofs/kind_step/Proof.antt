@@ -4,24 +4,6 @@ use borrow.Author.Needs.{needs}
 use Rattle.chain.proofs.kind_step.Statement.{statement}
 use Rattle.chain.proofs.kind_step.Tie as tie
 
-enum-known-made : tie.Need-enum-known-made
-enum-known-made c = search needs
-
-convert-color-interpolation-requires : tie.Need-convert-color-interpolation-requires
-convert-color-interpolation-requires c κs = search needs
-
-text-of-requires : tie.Need-text-of-requires
-text-of-requires c κs = search needs
-
-enum-told : tie.Need-enum-told
-enum-told c = search needs
-
-enum-told-2 : tie.Need-enum-told-2
-enum-told-2 c = search needs
-
-enum-told-3 : tie.Need-enum-told-3
-enum-told-3 c = search needs
-
 returns : tie.Need-returns
 returns c = (rw (c .before .before .before .made .given .1) (cc), rw (c .before .before .before .made .given .1) (omega arith))
 
@@ -38,12 +20,12 @@ pub kind-step-spec : {M : Type 1} → statement M
 kind-step-spec =
     tie.close
     (tie.spec
-    enum-known-made
-    convert-color-interpolation-requires
-    text-of-requires
-    enum-told
-    enum-told-2
-    enum-told-3
+    (λ c. search needs)
+    (λ c κs. search needs)
+    (λ c κs. search needs)
+    (λ c. search needs)
+    (λ c. search needs)
+    (λ c. search needs)
     returns
     returns-2
     returns-3

@@ -4,21 +4,6 @@ use borrow.Author.Needs.{needs}
 use Rattle.chain.proofs.make_convolve_matrix.Statement.{statement}
 use Rattle.chain.proofs.make_convolve_matrix.Tie as tie
 
-convert-convolve-matrix-requires : tie.Need-convert-convolve-matrix-requires
-convert-convolve-matrix-requires c κs = search needs
-
-enum-known-found : tie.Need-enum-known-found
-enum-known-found c = search needs
-
-text-of-requires : tie.Need-text-of-requires
-text-of-requires c κs = search needs
-
-enum-told : tie.Need-enum-told
-enum-told c = search needs
-
-dummy-requires : tie.Need-dummy-requires
-dummy-requires c κs = search needs
-
 returns : tie.Need-returns
 returns c = (rw (← c .before .before .before .before .convert-convolve-matrix .ensures, c .before .before .found .given .1) (cc), omega arith)
 
@@ -29,10 +14,10 @@ pub make-convolve-matrix-spec : {M : Type 1} → statement M
 make-convolve-matrix-spec =
     tie.close
     (tie.spec
-    convert-convolve-matrix-requires
-    enum-known-found
-    text-of-requires
-    enum-told
-    dummy-requires
+    (λ c κs. search needs)
+    (λ c. search needs)
+    (λ c κs. search needs)
+    (λ c. search needs)
+    (λ c κs. search needs)
     returns
     returns-2)

@@ -4,21 +4,6 @@ use borrow.Author.Needs.{needs}
 use Rattle.chain.proofs.make_specular_lighting.Statement.{statement}
 use Rattle.chain.proofs.make_specular_lighting.Tie as tie
 
-convert-specular-lighting-requires : tie.Need-convert-specular-lighting-requires
-convert-specular-lighting-requires c κs = search needs
-
-enum-known-found : tie.Need-enum-known-found
-enum-known-found c = search needs
-
-text-of-requires : tie.Need-text-of-requires
-text-of-requires c κs = search needs
-
-enum-told : tie.Need-enum-told
-enum-told c = search needs
-
-dummy-requires : tie.Need-dummy-requires
-dummy-requires c κs = search needs
-
 returns : tie.Need-returns
 returns c = (rw (← c .before .before .before .before .convert-specular-lighting .ensures, c .before .before .found .given .1) (cc), omega arith)
 
@@ -29,10 +14,10 @@ pub make-specular-lighting-spec : {M : Type 1} → statement M
 make-specular-lighting-spec =
     tie.close
     (tie.spec
-    convert-specular-lighting-requires
-    enum-known-found
-    text-of-requires
-    enum-told
-    dummy-requires
+    (λ c κs. search needs)
+    (λ c. search needs)
+    (λ c κs. search needs)
+    (λ c. search needs)
+    (λ c κs. search needs)
     returns
     returns-2)

@@ -4,15 +4,6 @@ use borrow.Author.Needs.{needs}
 use Rattle.chain.proofs.make_turbulence.Statement.{statement}
 use Rattle.chain.proofs.make_turbulence.Tie as tie
 
-convert-turbulence-requires : tie.Need-convert-turbulence-requires
-convert-turbulence-requires c κs = search needs
-
-enum-known-found : tie.Need-enum-known-found
-enum-known-found c = search needs
-
-enum-told : tie.Need-enum-told
-enum-told c = search needs
-
 returns : tie.Need-returns
 returns c = (rw (← c .before .before .before .convert-turbulence .ensures, c .before .found .given .1), omega arith)
 
@@ -21,4 +12,4 @@ returns-2 c = (rw (← c .before .before .convert-turbulence .ensures, c .enum-t
 
 pub make-turbulence-spec : {M : Type 1} → statement M
 make-turbulence-spec =
-    tie.close (tie.spec convert-turbulence-requires enum-known-found enum-told returns returns-2)
+    tie.close (tie.spec (λ c κs. search needs) (λ c. search needs) (λ c. search needs) returns returns-2)

@@ -17,18 +17,6 @@ Inv-loop s start frame n i₀ i = (start ≤ i) × (i ≤ countOf s) × (countOf
 abbrev μ-loop : tie.MeasureT-loop
 μ-loop s start frame n i₀ i = n - i
 
-node-count-requires : tie.Need-node-count-requires Inv-loop μ-loop
-node-count-requires c κs = search needs
-
-loop-holds : tie.Need-loop-holds Inv-loop μ-loop
-loop-holds c = search needs
-
-step-of-requires : tie.Need-step-of-requires Inv-loop μ-loop
-step-of-requires c κs = search needs
-
-enum-known-step : tie.Need-enum-known-step Inv-loop μ-loop
-enum-known-step c = search needs
-
 returns : tie.Need-returns Inv-loop μ-loop
 returns c =
     let a = c .before .before .before .before .before .before .before .before .args in
@@ -37,9 +25,6 @@ returns c =
     let under : l .i < countOf s = omega (arith, l .inv .3, c .before .before .before .before .loop-test .taken) in
     let e = sym (c .before .before .before .step-of .ensures .0) ∙ ap (stepIs s) (c .before .step .given .1) in
     record { exact = l .inv .4 ∙ chain-step (a .frame) s (l .i) under ∙ ap (λ (x : Step). follow x (chainFrom (a .frame) s (l .i + 1))) e; here = (l .inv .0, under, e, omega (arith, c .before .before .before .step-of .ensures .1, ap stepEnd (c .before .step .given .1))) }
-
-enum-told : tie.Need-enum-told Inv-loop μ-loop
-enum-told c = search needs
 
 returns-2 : tie.Need-returns-2 Inv-loop μ-loop
 returns-2 c =
@@ -50,9 +35,6 @@ returns-2 c =
     let e = sym (c .before .before .step-of .ensures .0) ∙ ap (stepIs s) (c .enum-told .given .1) in
     record { exact = l .inv .4 ∙ chain-step (a .frame) s (l .i) under ∙ ap (λ (x : Step). follow x (chainFrom (a .frame) s (l .i + 1))) e; here = tt }
 
-enum-told-2 : tie.Need-enum-told-2 Inv-loop μ-loop
-enum-told-2 c = search needs
-
 returns-3 : tie.Need-returns-3 Inv-loop μ-loop
 returns-3 c =
     let a = c .before .before .before .before .before .before .before .args in
@@ -62,9 +44,6 @@ returns-3 c =
     let e = sym (c .before .before .step-of .ensures .0) ∙ ap (stepIs s) (c .enum-told2 .given .1) in
     record { exact = l .inv .4 ∙ chain-step (a .frame) s (l .i) under ∙ ap (λ (x : Step). follow x (chainFrom (a .frame) s (l .i + 1))) e; here = tt }
 
-enum-told-3 : tie.Need-enum-told-3 Inv-loop μ-loop
-enum-told-3 c = search needs
-
 returns-4 : tie.Need-returns-4 Inv-loop μ-loop
 returns-4 c =
     let a = c .before .before .before .before .before .before .before .args in
@@ -73,15 +52,6 @@ returns-4 c =
     let under : l .i < countOf s = omega (arith, l .inv .3, c .before .before .before .loop-test .taken) in
     let e = sym (c .before .before .step-of .ensures .0) ∙ ap (stepIs s) (c .enum-told3 .given .1) in
     record { exact = l .inv .4 ∙ chain-step (a .frame) s (l .i) under ∙ ap (λ (x : Step). follow x (chainFrom (a .frame) s (l .i + 1))) e; here = tt }
-
-enum-told-4 : tie.Need-enum-told-4 Inv-loop μ-loop
-enum-told-4 c = search needs
-
-add-i : tie.Need-add-i Inv-loop μ-loop
-add-i c = search needs
-
-loop-less : tie.Need-loop-less Inv-loop μ-loop
-loop-less c = search needs
 
 loop-again : tie.Need-loop-again Inv-loop μ-loop
 loop-again c =
@@ -106,19 +76,19 @@ next-child-spec =
     (tie.spec
     Inv-loop
     μ-loop
-    node-count-requires
-    loop-holds
-    step-of-requires
-    enum-known-step
+    (λ c κs. search needs)
+    (λ c. search needs)
+    (λ c κs. search needs)
+    (λ c. search needs)
     returns
-    enum-told
+    (λ c. search needs)
     returns-2
-    enum-told-2
+    (λ c. search needs)
     returns-3
-    enum-told-3
+    (λ c. search needs)
     returns-4
-    enum-told-4
-    add-i
-    loop-less
+    (λ c. search needs)
+    (λ c. search needs)
+    (λ c. search needs)
     loop-again
     returns-5)

@@ -9,26 +9,8 @@ use borrow.Author.Needs.{needs}
 use Rattle.chain.proofs.region_step.Statement.{statement}
 use Rattle.chain.proofs.region_step.Tie as tie
 
-resolve-primitive-region-requires : tie.Need-resolve-primitive-region-requires
-resolve-primitive-region-requires c κs = search needs
-
-enum-known-region : tie.Need-enum-known-region
-enum-known-region c = search needs
-
-children-requires : tie.Need-children-requires
-children-requires c κs = search needs
-
 kind-of-requires : tie.Need-kind-of-requires
 kind-of-requires c κs = omega (arith, c .children .ensures .within, c .before .before .before .before .before .before .pre)
-
-kind-step-requires : tie.Need-kind-step-requires
-kind-step-requires c κs = search needs
-
-enum-told : tie.Need-enum-told
-enum-told c = search needs
-
-enum-told-2 : tie.Need-enum-told-2
-enum-told-2 c = search needs
 
 returns : tie.Need-returns
 returns c =
@@ -46,13 +28,13 @@ pub region-step-spec : {M : Type 1} → statement M
 region-step-spec =
     tie.close
     (tie.spec
-    resolve-primitive-region-requires
-    enum-known-region
-    children-requires
+    (λ c κs. search needs)
+    (λ c. search needs)
+    (λ c κs. search needs)
     kind-of-requires
-    kind-step-requires
-    enum-told
-    enum-told-2
+    (λ c κs. search needs)
+    (λ c. search needs)
+    (λ c. search needs)
     returns
     returns-2
     returns-3)

@@ -12,12 +12,6 @@ use borrow.Author.Needs.{needs}
 use Rattle.chain.proofs.step_of.Statement.{statement}
 use Rattle.chain.proofs.step_of.Tie as tie
 
-node-offset-requires : tie.Need-node-offset-requires
-node-offset-requires c κs = search needs
-
-depth-requires : tie.Need-depth-requires
-depth-requires c κs = search needs
-
 returns : tie.Need-returns
 returns c =
     let a = c .before .before .before .before .args in
@@ -25,9 +19,6 @@ returns c =
     let e = ap (nodeFrom s) (c .before .before .node-offset .ensures) in
     let d : nodeAt s (a .i) .depth ≡ 1 = sym (ap (λ (x : Node). x .depth) e) ∙ sym (c .before .depth .ensures) ∙ c .if1 .taken in
     (sym (step-depth (a .frame) (nodeAt s (a .i)) (nodesAfter s (a .i)) d), omega arith)
-
-tag-requires : tie.Need-tag-requires
-tag-requires c κs = search needs
 
 returns-2 : tie.Need-returns-2
 returns-2 c =
@@ -37,9 +28,6 @@ returns-2 c =
     let d : nodeAt s (a .i) .depth ≡ 1 → ⊥ = λ q. c .before .before .if1 .left (c .before .before .before .depth .ensures ∙ ap (λ (x : Node). x .depth) e ∙ q) in
     let t : nodeAt s (a .i) .tag ≡ 0 = sym (ap (λ (x : Node). x .tag) e) ∙ sym (c .before .tag .ensures) ∙ c .if2 .taken in
     (sym (step-tagless (a .frame) (nodeAt s (a .i)) (nodesAfter s (a .i)) d t), omega arith)
-
-region-step-requires : tie.Need-region-step-requires
-region-step-requires c κs = search needs
 
 returns-3 : tie.Need-returns-3
 returns-3 c =
@@ -54,10 +42,10 @@ pub step-of-spec : {M : Type 1} → statement M
 step-of-spec =
     tie.close
     (tie.spec
-    node-offset-requires
-    depth-requires
+    (λ c κs. search needs)
+    (λ c κs. search needs)
     returns
-    tag-requires
+    (λ c κs. search needs)
     returns-2
-    region-step-requires
+    (λ c κs. search needs)
     returns-3)

@@ -3,14 +3,8 @@ use borrow.Author.Needs.{needs}
 use Rattle.fe.proofs.number_or.Statement.{statement}
 use Rattle.fe.proofs.number_or.Tie as tie
 
-number-of-requires : tie.Need-number-of-requires
-number-of-requires c κs = search needs
-
-or-else-requires : tie.Need-or-else-requires
-or-else-requires c κs = search needs
-
 returns : tie.Need-returns
 returns c = rw (← c .before .number-of .ensures) (c .or-else .ensures)
 
 pub number-or-spec : {M : Type 1} → statement M
-number-or-spec = tie.close (tie.spec number-of-requires or-else-requires returns)
+number-or-spec = tie.close (tie.spec (λ c κs. search needs) (λ c κs. search needs) returns)

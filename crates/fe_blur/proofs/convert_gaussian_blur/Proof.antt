@@ -3,11 +3,8 @@ use borrow.Author.Needs.{needs}
 use Rattle.fe_blur.proofs.convert_gaussian_blur.Statement.{statement}
 use Rattle.fe_blur.proofs.convert_gaussian_blur.Tie as tie
 
-convert-std-dev-attr-requires : tie.Need-convert-std-dev-attr-requires
-convert-std-dev-attr-requires c κs = search needs
-
 returns : tie.Need-returns
 returns c = rw (c .convert-std-dev-attr .ensures)
 
 pub convert-gaussian-blur-spec : {M : Type 1} → statement M
-convert-gaussian-blur-spec = tie.close (tie.spec convert-std-dev-attr-requires returns)
+convert-gaussian-blur-spec = tie.close (tie.spec (λ c κs. search needs) returns)

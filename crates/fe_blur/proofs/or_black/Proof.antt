@@ -3,17 +3,8 @@ use borrow.Author.Needs.{needs}
 use Rattle.fe_blur.proofs.or_black.Statement.{statement}
 use Rattle.fe_blur.proofs.or_black.Tie as tie
 
-enum-known-c : tie.Need-enum-known-c
-enum-known-c c = search needs
-
-enum-told : tie.Need-enum-told
-enum-told c = search needs
-
-returns : tie.Need-returns
-returns c = search needs
-
 returns-2 : tie.Need-returns-2
 returns-2 c = rw (c .enum-told .given .1)
 
 pub or-black-spec : {M : Type 1} → statement M
-or-black-spec = tie.close (tie.spec enum-known-c enum-told returns returns-2)
+or-black-spec = tie.close (tie.spec (λ c. search needs) (λ c. search needs) (λ c. search needs) returns-2)

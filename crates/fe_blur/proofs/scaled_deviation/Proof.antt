@@ -12,9 +12,6 @@ use Rattle.fe_blur.proofs.scaled_deviation.Tie as tie
 abbrev chosen : Float → Float → Bool → Float
 chosen n scale b = cond b (mul binary32 n scale) plusZero
 
-is-positive-requires : tie.Need-is-positive-requires
-is-positive-requires c κs = search needs
-
 returns : tie.Need-returns
 unfolding deviation
 returns c = sym (ap (chosen (c .before .before .args .n) (c .before .before .args .scale)) (sym (c .before .is-positive .ensures) ∙ c .if1 .taken))
@@ -24,4 +21,4 @@ unfolding deviation
 returns-2 c = sym (ap (chosen (c .before .before .args .n) (c .before .before .args .scale)) (sym (c .before .is-positive .ensures) ∙ c .if1 .left))
 
 pub scaled-deviation-spec : {M : Type 1} → statement M
-scaled-deviation-spec = tie.close (tie.spec is-positive-requires returns returns-2)
+scaled-deviation-spec = tie.close (tie.spec (λ c κs. search needs) returns returns-2)

@@ -3,14 +3,8 @@ use borrow.Author.Needs.{needs}
 use Rattle.fe_color.proofs.convert_blend.Statement.{statement}
 use Rattle.fe_color.proofs.convert_blend.Tie as tie
 
-text-of-requires : tie.Need-text-of-requires
-text-of-requires c κs = search needs
-
-mode-requires : tie.Need-mode-requires
-mode-requires c κs = search needs
-
 returns : tie.Need-returns
 returns c = rw (← c .before .text-of .ensures) (c .mode .ensures)
 
 pub convert-blend-spec : {M : Type 1} → statement M
-convert-blend-spec = tie.close (tie.spec text-of-requires mode-requires returns)
+convert-blend-spec = tie.close (tie.spec (λ c κs. search needs) (λ c κs. search needs) returns)

@@ -4,15 +4,6 @@ use borrow.Author.Needs.{needs}
 use Rattle.fe_color.proofs.convert_color_interpolation.Statement.{statement}
 use Rattle.fe_color.proofs.convert_color_interpolation.Tie as tie
 
-text-of-requires : tie.Need-text-of-requires
-text-of-requires c κs = search needs
-
-slice-aggregate-is-word : tie.Need-slice-aggregate-is-word
-slice-aggregate-is-word c = search needs
-
-is-word-requires : tie.Need-is-word-requires
-is-word-requires c κs = search needs
-
 returns : tie.Need-returns
 returns c =
     rw (← c .before .before .before .text-of .ensures)
@@ -27,4 +18,4 @@ returns-2 c =
 pub convert-color-interpolation-spec : {M : Type 1} → statement M
 convert-color-interpolation-spec =
     tie.close
-    (tie.spec text-of-requires slice-aggregate-is-word is-word-requires returns returns-2)
+    (tie.spec (λ c κs. search needs) (λ c. search needs) (λ c κs. search needs) returns returns-2)

@@ -24,24 +24,6 @@ loop-holds c =
     let e : a .n - 0 ≡ a .n = omega arith in
     (search needs, rw (add-zero, e))
 
-add-node-offset : tie.Need-add-node-offset Inv-loop μ-loop
-add-node-offset c = search needs
-
-add-node-offset-2 : tie.Need-add-node-offset-2 Inv-loop μ-loop
-add-node-offset-2 c = search needs
-
-node-offset-requires : tie.Need-node-offset-requires Inv-loop μ-loop
-node-offset-requires c κs = search needs
-
-with-child-requires : tie.Need-with-child-requires Inv-loop μ-loop
-with-child-requires c κs = search needs
-
-add-k : tie.Need-add-k Inv-loop μ-loop
-add-k c = search needs
-
-loop-less : tie.Need-loop-less Inv-loop μ-loop
-loop-less c = search needs
-
 loop-again : tie.Need-loop-again Inv-loop μ-loop
 loop-again c =
     let a = c .before .before .before .before .before .args in
@@ -64,11 +46,11 @@ convert-component-transfer-spec =
     Inv-loop
     μ-loop
     loop-holds
-    add-node-offset
-    add-node-offset-2
-    node-offset-requires
-    with-child-requires
-    add-k
-    loop-less
+    (λ c. search needs)
+    (λ c. search needs)
+    (λ c κs. search needs)
+    (λ c κs. search needs)
+    (λ c. search needs)
+    (λ c. search needs)
     loop-again
     returns)

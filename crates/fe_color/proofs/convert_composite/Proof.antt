@@ -5,25 +5,10 @@ use borrow.Author.Needs.{needs}
 use Rattle.fe_color.proofs.convert_composite.Statement.{statement}
 use Rattle.fe_color.proofs.convert_composite.Tie as tie
 
-text-of-requires : tie.Need-text-of-requires
-text-of-requires c κs = search needs
-
-slice-aggregate-is-word : tie.Need-slice-aggregate-is-word
-slice-aggregate-is-word c = search needs
-
-is-word-requires : tie.Need-is-word-requires
-is-word-requires c κs = search needs
-
 returns : tie.Need-returns
 returns c =
     rw (← c .before .before .before .text-of .ensures)
     (hit _ _ _ _ _ _ (c .before .is-word .ensures) (c .if1 .taken))
-
-slice-aggregate-is-word-2 : tie.Need-slice-aggregate-is-word-2
-slice-aggregate-is-word-2 c = search needs
-
-is-word-requires-2 : tie.Need-is-word-requires-2
-is-word-requires-2 c κs = search needs
 
 returns-2 : tie.Need-returns-2
 returns-2 c =
@@ -31,24 +16,12 @@ returns-2 c =
     (miss _ _ _ _ _ _ _ (c .before .before .before .before .is-word .ensures) (c .before .before .before .if1 .left)
     (hit _ _ _ _ _ _ (c .before .is-word2 .ensures) (c .if2 .taken)))
 
-slice-aggregate-is-word-3 : tie.Need-slice-aggregate-is-word-3
-slice-aggregate-is-word-3 c = search needs
-
-is-word-requires-3 : tie.Need-is-word-requires-3
-is-word-requires-3 c κs = search needs
-
 returns-3 : tie.Need-returns-3
 returns-3 c =
     rw (← c .before .before .before .before .before .before .before .before .before .text-of .ensures)
     (miss _ _ _ _ _ _ _ (c .before .before .before .before .before .before .before .is-word .ensures) (c .before .before .before .before .before .before .if1 .left)
     (miss _ _ _ _ _ _ _ (c .before .before .before .before .is-word2 .ensures) (c .before .before .before .if2 .left)
     (hit _ _ _ _ _ _ (c .before .is-word3 .ensures) (c .if3 .taken))))
-
-slice-aggregate-is-word-4 : tie.Need-slice-aggregate-is-word-4
-slice-aggregate-is-word-4 c = search needs
-
-is-word-requires-4 : tie.Need-is-word-requires-4
-is-word-requires-4 c κs = search needs
 
 returns-4 : tie.Need-returns-4
 returns-4 c =
@@ -58,12 +31,6 @@ returns-4 c =
     (miss _ _ _ _ _ _ _ (c .before .before .before .before .is-word3 .ensures) (c .before .before .before .if3 .left)
     (hit _ _ _ _ _ _ (c .before .is-word4 .ensures) (c .if4 .taken)))))
 
-slice-aggregate-is-word-5 : tie.Need-slice-aggregate-is-word-5
-slice-aggregate-is-word-5 c = search needs
-
-is-word-requires-5 : tie.Need-is-word-requires-5
-is-word-requires-5 c κs = search needs
-
 returns-5 : tie.Need-returns-5
 returns-5 c =
     rw (← c .before .before .before .before .before .before .before .before .before .before .before .before .before .before .before .text-of .ensures)
@@ -72,15 +39,6 @@ returns-5 c =
     (miss _ _ _ _ _ _ _ (c .before .before .before .before .before .before .before .is-word3 .ensures) (c .before .before .before .before .before .before .if3 .left)
     (miss _ _ _ _ _ _ _ (c .before .before .before .before .is-word4 .ensures) (c .before .before .before .if4 .left)
     (hit _ _ _ _ _ _ (c .before .is-word5 .ensures) (c .if5 .taken))))))
-
-slice-aggregate-is-word-6 : tie.Need-slice-aggregate-is-word-6
-slice-aggregate-is-word-6 c = search needs
-
-is-word-requires-6 : tie.Need-is-word-requires-6
-is-word-requires-6 c κs = search needs
-
-arithmetic-requires : tie.Need-arithmetic-requires
-arithmetic-requires c κs = search needs
 
 returns-6 : tie.Need-returns-6
 returns-6 c =
@@ -107,24 +65,24 @@ pub convert-composite-spec : {M : Type 1} → statement M
 convert-composite-spec =
     tie.close
     (tie.spec
-    text-of-requires
-    slice-aggregate-is-word
-    is-word-requires
+    (λ c κs. search needs)
+    (λ c. search needs)
+    (λ c κs. search needs)
     returns
-    slice-aggregate-is-word-2
-    is-word-requires-2
+    (λ c. search needs)
+    (λ c κs. search needs)
     returns-2
-    slice-aggregate-is-word-3
-    is-word-requires-3
+    (λ c. search needs)
+    (λ c κs. search needs)
     returns-3
-    slice-aggregate-is-word-4
-    is-word-requires-4
+    (λ c. search needs)
+    (λ c κs. search needs)
     returns-4
-    slice-aggregate-is-word-5
-    is-word-requires-5
+    (λ c. search needs)
+    (λ c κs. search needs)
     returns-5
-    slice-aggregate-is-word-6
-    is-word-requires-6
-    arithmetic-requires
+    (λ c. search needs)
+    (λ c κs. search needs)
+    (λ c κs. search needs)
     returns-6
     returns-7)

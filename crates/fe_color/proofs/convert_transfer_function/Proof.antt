@@ -8,29 +8,11 @@ use borrow.Author.Needs.{needs}
 use Rattle.fe_color.proofs.convert_transfer_function.Statement.{statement}
 use Rattle.fe_color.proofs.convert_transfer_function.Tie as tie
 
-text-of-requires : tie.Need-text-of-requires
-text-of-requires c κs = search needs
-
-slice-aggregate-is-word : tie.Need-slice-aggregate-is-word
-slice-aggregate-is-word c = search needs
-
-is-word-requires : tie.Need-is-word-requires
-is-word-requires c κs = search needs
-
 returns : tie.Need-returns
 unfolding transferFunctionOf
 returns c =
     rw (← c .before .before .before .text-of .ensures)
     (hit _ _ _ _ _ _ (c .before .is-word .ensures) (c .if1 .taken))
-
-slice-aggregate-is-word-2 : tie.Need-slice-aggregate-is-word-2
-slice-aggregate-is-word-2 c = search needs
-
-is-word-requires-2 : tie.Need-is-word-requires-2
-is-word-requires-2 c κs = search needs
-
-table-values-requires : tie.Need-table-values-requires
-table-values-requires c κs = search needs
 
 returns-2 : tie.Need-returns-2
 unfolding transferFunctionOf
@@ -38,15 +20,6 @@ returns-2 c =
     rw (← c .before .before .before .before .before .before .before .text-of .ensures)
     (miss _ _ _ _ _ _ _ (c .before .before .before .before .before .is-word .ensures) (c .before .before .before .before .if1 .left)
     (ap (λ x. some (Table x)) (c .table-values .ensures) ∙ hit _ _ _ _ _ _ (c .before .before .is-word2 .ensures) (c .before .if2 .taken)))
-
-slice-aggregate-is-word-3 : tie.Need-slice-aggregate-is-word-3
-slice-aggregate-is-word-3 c = search needs
-
-is-word-requires-3 : tie.Need-is-word-requires-3
-is-word-requires-3 c κs = search needs
-
-table-values-requires-2 : tie.Need-table-values-requires-2
-table-values-requires-2 c κs = search needs
 
 returns-3 : tie.Need-returns-3
 unfolding transferFunctionOf
@@ -56,15 +29,6 @@ returns-3 c =
     (miss _ _ _ _ _ _ _ (c .before .before .before .before .before .is-word2 .ensures) (c .before .before .before .before .if2 .left)
     (ap (λ x. some (Discrete x)) (c .table-values2 .ensures) ∙ hit _ _ _ _ _ _ (c .before .before .is-word3 .ensures) (c .before .if3 .taken))))
 
-slice-aggregate-is-word-4 : tie.Need-slice-aggregate-is-word-4
-slice-aggregate-is-word-4 c = search needs
-
-is-word-requires-4 : tie.Need-is-word-requires-4
-is-word-requires-4 c κs = search needs
-
-linear-requires : tie.Need-linear-requires
-linear-requires c κs = search needs
-
 returns-4 : tie.Need-returns-4
 unfolding transferFunctionOf
 returns-4 c =
@@ -73,15 +37,6 @@ returns-4 c =
     (miss _ _ _ _ _ _ _ (c .before .before .before .before .before .before .before .before .is-word2 .ensures) (c .before .before .before .before .before .before .before .if2 .left)
     (miss _ _ _ _ _ _ _ (c .before .before .before .before .before .is-word3 .ensures) (c .before .before .before .before .if3 .left)
     (ap some (c .linear .ensures) ∙ hit _ _ _ _ _ _ (c .before .before .is-word4 .ensures) (c .before .if4 .taken)))))
-
-slice-aggregate-is-word-5 : tie.Need-slice-aggregate-is-word-5
-slice-aggregate-is-word-5 c = search needs
-
-is-word-requires-5 : tie.Need-is-word-requires-5
-is-word-requires-5 c κs = search needs
-
-gamma-requires : tie.Need-gamma-requires
-gamma-requires c κs = search needs
 
 returns-5 : tie.Need-returns-5
 unfolding transferFunctionOf
@@ -108,24 +63,24 @@ pub convert-transfer-function-spec : {M : Type 1} → statement M
 convert-transfer-function-spec =
     tie.close
     (tie.spec
-    text-of-requires
-    slice-aggregate-is-word
-    is-word-requires
+    (λ c κs. search needs)
+    (λ c. search needs)
+    (λ c κs. search needs)
     returns
-    slice-aggregate-is-word-2
-    is-word-requires-2
-    table-values-requires
+    (λ c. search needs)
+    (λ c κs. search needs)
+    (λ c κs. search needs)
     returns-2
-    slice-aggregate-is-word-3
-    is-word-requires-3
-    table-values-requires-2
+    (λ c. search needs)
+    (λ c κs. search needs)
+    (λ c κs. search needs)
     returns-3
-    slice-aggregate-is-word-4
-    is-word-requires-4
-    linear-requires
+    (λ c. search needs)
+    (λ c κs. search needs)
+    (λ c κs. search needs)
     returns-4
-    slice-aggregate-is-word-5
-    is-word-requires-5
-    gamma-requires
+    (λ c. search needs)
+    (λ c κs. search needs)
+    (λ c κs. search needs)
     returns-5
     returns-6)

@@ -7,16 +7,10 @@ use borrow.Author.Needs.{needs}
 use Rattle.fe_color.proofs.first_or.Statement.{statement}
 use Rattle.fe_color.proofs.first_or.Tie as tie
 
-numbers-len-requires : tie.Need-numbers-len-requires
-numbers-len-requires c κs = search needs
-
 returns : tie.Need-returns
 returns c =
     let a = c .before .before .before .args in
     first-none (a .default) (numbersIs (now (a .s)) (a .list)) (sym (c .before .numbers-len .ensures) ∙ c .if1 .taken)
-
-number-at-requires : tie.Need-number-at-requires
-number-at-requires c κs = search needs
 
 returns-2 : tie.Need-returns-2
 returns-2 c =
@@ -24,4 +18,4 @@ returns-2 c =
     c .number-at .ensures ∙ first-some (a .default) (numbersIs (now (a .s)) (a .list)) (λ e. c .before .if1 .left (c .before .before .numbers-len .ensures ∙ e))
 
 pub first-or-spec : {M : Type 1} → statement M
-first-or-spec = tie.close (tie.spec numbers-len-requires returns number-at-requires returns-2)
+first-or-spec = tie.close (tie.spec (λ c κs. search needs) returns (λ c κs. search needs) returns-2)

@@ -4,15 +4,6 @@ use borrow.Author.Needs.{needs}
 use Rattle.fe_color.proofs.table_values.Statement.{statement}
 use Rattle.fe_color.proofs.table_values.Tie as tie
 
-numbers-of-requires : tie.Need-numbers-of-requires
-numbers-of-requires c κs = search needs
-
-enum-known-values : tie.Need-enum-known-values
-enum-known-values c = search needs
-
-enum-told : tie.Need-enum-told
-enum-told c = search needs
-
 returns : tie.Need-returns
 returns c = rw (← c .before .before .before .numbers-of .ensures, c .before .values .given .1)
 
@@ -22,4 +13,4 @@ returns-2 c = rw (← c .before .before .numbers-of .ensures, c .enum-told .give
 
 pub table-values-spec : {M : Type 1} → statement M
 table-values-spec =
-    tie.close (tie.spec numbers-of-requires enum-known-values enum-told returns returns-2)
+    tie.close (tie.spec (λ c κs. search needs) (λ c. search needs) (λ c. search needs) returns returns-2)

@@ -12,21 +12,6 @@ use borrow.Author.Needs.{needs}
 use Rattle.fe_color.proofs.with_child.Statement.{statement}
 use Rattle.fe_color.proofs.with_child.Tie as tie
 
-convert-transfer-function-requires : tie.Need-convert-transfer-function-requires
-convert-transfer-function-requires c κs = search needs
-
-enum-known-f : tie.Need-enum-known-f
-enum-known-f c = search needs
-
-tag-requires : tie.Need-tag-requires
-tag-requires c κs = search needs
-
-assign-requires : tie.Need-assign-requires
-assign-requires c κs = search needs
-
-enum-told : tie.Need-enum-told
-enum-told c = search needs
-
 returns : tie.Need-returns
 returns c =
     let a = c .before .before .before .before .before .before .before .args in
@@ -46,10 +31,10 @@ pub with-child-spec : {M : Type 1} → statement M
 with-child-spec =
     tie.close
     (tie.spec
-    convert-transfer-function-requires
-    enum-known-f
-    tag-requires
-    assign-requires
-    enum-told
+    (λ c κs. search needs)
+    (λ c. search needs)
+    (λ c κs. search needs)
+    (λ c κs. search needs)
+    (λ c. search needs)
     returns
     returns-2)

@@ -4,23 +4,8 @@ use borrow.Author.Needs.{needs}
 use Rattle.fe_kernel.proofs.convert_edge_mode.Statement.{statement}
 use Rattle.fe_kernel.proofs.convert_edge_mode.Tie as tie
 
-text-of-requires : tie.Need-text-of-requires
-text-of-requires c κs = search needs
-
-slice-aggregate-is-word : tie.Need-slice-aggregate-is-word
-slice-aggregate-is-word c = search needs
-
-is-word-requires : tie.Need-is-word-requires
-is-word-requires c κs = search needs
-
 returns : tie.Need-returns
 returns c = rw (← c .before .before .before .text-of .ensures, sym (c .before .is-word .ensures) ∙ c .if1 .taken)
-
-slice-aggregate-is-word-2 : tie.Need-slice-aggregate-is-word-2
-slice-aggregate-is-word-2 c = search needs
-
-is-word-requires-2 : tie.Need-is-word-requires-2
-is-word-requires-2 c κs = search needs
 
 returns-2 : tie.Need-returns-2
 returns-2 c = rw (← c .before .before .before .before .before .before .text-of .ensures, sym (c .before .before .before .before .is-word .ensures) ∙ c .before .before .before .if1 .left, sym (c .before .is-word2 .ensures) ∙ c .if2 .taken)
@@ -32,11 +17,11 @@ pub convert-edge-mode-spec : {M : Type 1} → statement M
 convert-edge-mode-spec =
     tie.close
     (tie.spec
-    text-of-requires
-    slice-aggregate-is-word
-    is-word-requires
+    (λ c κs. search needs)
+    (λ c. search needs)
+    (λ c κs. search needs)
     returns
-    slice-aggregate-is-word-2
-    is-word-requires-2
+    (λ c. search needs)
+    (λ c κs. search needs)
     returns-2
     returns-3)

@@ -5,15 +5,6 @@ use borrow.Author.Needs.{needs}
 use Rattle.fe_kernel.proofs.default_divisor.Statement.{statement}
 use Rattle.fe_kernel.proofs.default_divisor.Tie as tie
 
-sum-requires : tie.Need-sum-requires
-sum-requires c κs = search needs
-
-round-f32-requires : tie.Need-round-f32-requires
-round-f32-requires c κs = search needs
-
-approx-zero-ulps-requires : tie.Need-approx-zero-ulps-requires
-approx-zero-ulps-requires c κs = search needs
-
 returns : tie.Need-returns
 unfolding defaultDivisor
 returns c = rw (← c .before .before .before .sum .ensures, ← c .before .before .round-f32 .ensures, sym (c .before .approx-zero-ulps .ensures) ∙ c .if1 .taken)
@@ -25,4 +16,4 @@ returns-2 c = rw (← c .before .before .before .sum .ensures, ← c .before .be
 pub default-divisor-spec : {M : Type 1} → statement M
 default-divisor-spec =
     tie.close
-    (tie.spec sum-requires round-f32-requires approx-zero-ulps-requires returns returns-2)
+    (tie.spec (λ c κs. search needs) (λ c κs. search needs) (λ c κs. search needs) returns returns-2)

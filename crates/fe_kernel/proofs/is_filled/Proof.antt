@@ -4,18 +4,6 @@ use borrow.Author.Needs.{needs}
 use Rattle.fe_kernel.proofs.is_filled.Statement.{statement}
 use Rattle.fe_kernel.proofs.is_filled.Tie as tie
 
-numbers-len-requires : tie.Need-numbers-len-requires
-numbers-len-requires c κs = search needs
-
-wide16-requires : tie.Need-wide16-requires
-wide16-requires c κs = search needs
-
-wide32-requires : tie.Need-wide32-requires
-wide32-requires c κs = search needs
-
-wide32-requires-2 : tie.Need-wide32-requires-2
-wide32-requires-2 c κs = search needs
-
 mul-result : tie.Need-mul-result
 mul-result c = record { fits = product-fits (c .before .wide32 .ensures .1) (c .wide322 .ensures .1) }
 
@@ -26,9 +14,9 @@ pub is-filled-spec : {M : Type 1} → statement M
 is-filled-spec =
     tie.close
     (tie.spec
-    numbers-len-requires
-    wide16-requires
-    wide32-requires
-    wide32-requires-2
+    (λ c κs. search needs)
+    (λ c κs. search needs)
+    (λ c κs. search needs)
+    (λ c κs. search needs)
     mul-result
     returns)

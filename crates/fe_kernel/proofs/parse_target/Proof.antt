@@ -8,21 +8,6 @@ use borrow.Author.Needs.{needs}
 use Rattle.fe_kernel.proofs.parse_target.Statement.{statement}
 use Rattle.fe_kernel.proofs.parse_target.Tie as tie
 
-enum-known-target : tie.Need-enum-known-target
-enum-known-target c = search needs
-
-f32-to-i32-requires : tie.Need-f32-to-i32-requires
-f32-to-i32-requires c κs = search needs
-
-target-inside-requires : tie.Need-target-inside-requires
-target-inside-requires c κs = search needs
-
-enum-told : tie.Need-enum-told
-enum-told c = search needs
-
-target-below-requires : tie.Need-target-below-requires
-target-below-requires c κs = search needs
-
 returns : tie.Need-returns
 unfolding targetOf
 returns c = rw (c .before .before .before .target .given .1) (c .target-inside .ensures ∙ ap (λ (z : ℤ). inside z (c .before .before .before .before .before .args .order)) (ap back (c .before .f32-to-i32 .ensures) ∙ cut-back _))
@@ -35,10 +20,10 @@ pub parse-target-spec : {M : Type 1} → statement M
 parse-target-spec =
     tie.close
     (tie.spec
-    enum-known-target
-    f32-to-i32-requires
-    target-inside-requires
-    enum-told
-    target-below-requires
+    (λ c. search needs)
+    (λ c κs. search needs)
+    (λ c κs. search needs)
+    (λ c. search needs)
+    (λ c κs. search needs)
     returns
     returns-2)

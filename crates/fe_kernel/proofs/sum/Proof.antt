@@ -18,20 +18,8 @@ Inv-loop s kernel n total₀ i₀ total i = (i ≤ n) × (n ≡ length (numbersI
 abbrev μ-loop : tie.MeasureT-loop
 μ-loop s kernel n total₀ i₀ total i = n - i
 
-numbers-len-requires : tie.Need-numbers-len-requires Inv-loop μ-loop
-numbers-len-requires c κs = search needs
-
 loop-holds : tie.Need-loop-holds Inv-loop μ-loop
 loop-holds c = (search needs, c .numbers-len .ensures, refl)
-
-number-at-requires : tie.Need-number-at-requires Inv-loop μ-loop
-number-at-requires c κs = search needs
-
-add-i : tie.Need-add-i Inv-loop μ-loop
-add-i c = search needs
-
-loop-less : tie.Need-loop-less Inv-loop μ-loop
-loop-less c = search needs
 
 loop-again : tie.Need-loop-again Inv-loop μ-loop
 loop-again c =
@@ -53,10 +41,10 @@ sum-spec =
     (tie.spec
     Inv-loop
     μ-loop
-    numbers-len-requires
+    (λ c κs. search needs)
     loop-holds
-    number-at-requires
-    add-i
-    loop-less
+    (λ c κs. search needs)
+    (λ c. search needs)
+    (λ c. search needs)
     loop-again
     returns)

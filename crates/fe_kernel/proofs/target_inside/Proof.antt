@@ -8,15 +8,9 @@ use Rattle.fe_kernel.proofs.target_inside.Tie as tie
 returns : tie.Need-returns
 returns c = negative-inside (c .before .args .t) (c .before .fits .t) (c .before .args .order) (c .if1 .taken)
 
-above-zero-requires : tie.Need-above-zero-requires
-above-zero-requires c κs = search needs
-
-target-below-requires : tie.Need-target-below-requires
-target-below-requires c κs = search needs
-
 returns-2 : tie.Need-returns-2
 returns-2 c = rw (c .before .above-zero .ensures) at (c .target-below .ensures) ∙ above-inside (c .before .before .before .args .t) (c .before .before .before .fits .t) (c .before .before .before .args .order) (c .before .before .if1 .left)
 
 pub target-inside-spec : {M : Type 1} → statement M
 target-inside-spec =
-    tie.close (tie.spec returns above-zero-requires target-below-requires returns-2)
+    tie.close (tie.spec returns (λ c κs. search needs) (λ c κs. search needs) returns-2)

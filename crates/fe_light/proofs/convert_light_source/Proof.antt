@@ -19,31 +19,10 @@ abbrev μ-loop : tie.MeasureT-loop
 loop-holds : tie.Need-loop-holds Inv-loop μ-loop
 loop-holds c = (search needs, refl)
 
-add-k : tie.Need-add-k Inv-loop μ-loop
-add-k c = search needs
-
-node-offset-requires : tie.Need-node-offset-requires Inv-loop μ-loop
-node-offset-requires c κs = search needs
-
-light-requires : tie.Need-light-requires Inv-loop μ-loop
-light-requires c κs = search needs
-
-enum-known-found : tie.Need-enum-known-found Inv-loop μ-loop
-enum-known-found c = search needs
-
 returns : tie.Need-returns Inv-loop μ-loop
 returns c =
     let l = c .before .before .before .before .before .before .loop in
     sym (l .inv .1 ∙ first-is (now (c .before .before .before .before .before .before .before .before .args .s)) (l .k + 1) (l .left) (omega arith) _ (sym (rw (c .before .before .before .before .node-offset .ensures) at (c .before .before .before .light .ensures)) ∙ c .before .found .given .1))
-
-enum-told : tie.Need-enum-told Inv-loop μ-loop
-enum-told c = search needs
-
-sub-left : tie.Need-sub-left Inv-loop μ-loop
-sub-left c = search needs
-
-loop-less : tie.Need-loop-less Inv-loop μ-loop
-loop-less c = search needs
 
 loop-again : tie.Need-loop-again Inv-loop μ-loop
 loop-again c =
@@ -62,13 +41,13 @@ convert-light-source-spec =
     Inv-loop
     μ-loop
     loop-holds
-    add-k
-    node-offset-requires
-    light-requires
-    enum-known-found
+    (λ c. search needs)
+    (λ c κs. search needs)
+    (λ c κs. search needs)
+    (λ c. search needs)
     returns
-    enum-told
-    sub-left
-    loop-less
+    (λ c. search needs)
+    (λ c. search needs)
+    (λ c. search needs)
     loop-again
     returns-2)

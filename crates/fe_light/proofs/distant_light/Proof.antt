@@ -3,14 +3,8 @@ use borrow.Author.Needs.{needs}
 use Rattle.fe_light.proofs.distant_light.Statement.{statement}
 use Rattle.fe_light.proofs.distant_light.Tie as tie
 
-number-or-requires : tie.Need-number-or-requires
-number-or-requires c κs = search needs
-
-number-or-requires-2 : tie.Need-number-or-requires-2
-number-or-requires-2 c κs = search needs
-
 returns : tie.Need-returns
 returns c = cc
 
 pub distant-light-spec : {M : Type 1} → statement M
-distant-light-spec = tie.close (tie.spec number-or-requires number-or-requires-2 returns)
+distant-light-spec = tie.close (tie.spec (λ c κs. search needs) (λ c κs. search needs) returns)

@@ -5,18 +5,6 @@ use borrow.Author.Needs.{needs}
 use Rattle.fe_light.proofs.light.Statement.{statement}
 use Rattle.fe_light.proofs.light.Tie as tie
 
-tag-requires : tie.Need-tag-requires
-tag-requires c κs = search needs
-
-distant-light-requires : tie.Need-distant-light-requires
-distant-light-requires c κs = search needs
-
-point-light-requires : tie.Need-point-light-requires
-point-light-requires c κs = search needs
-
-spot-light-requires : tie.Need-spot-light-requires
-spot-light-requires c κs = search needs
-
 returns : tie.Need-returns
 unfolding lightOf
 returns c = rw (← c .before .before .tag .ensures, c .before .match .keys1) (cc)
@@ -39,10 +27,10 @@ pub light-spec : {M : Type 1} → statement M
 light-spec =
     tie.close
     (tie.spec
-    tag-requires
-    distant-light-requires
-    point-light-requires
-    spot-light-requires
+    (λ c κs. search needs)
+    (λ c κs. search needs)
+    (λ c κs. search needs)
+    (λ c κs. search needs)
     returns
     returns-2
     returns-3

@@ -4,12 +4,6 @@ use borrow.Author.Needs.{needs}
 use Rattle.fe_light.proofs.spot_exponent.Statement.{statement}
 use Rattle.fe_light.proofs.spot_exponent.Tie as tie
 
-number-or-requires : tie.Need-number-or-requires
-number-or-requires c κs = search needs
-
-is-positive-requires : tie.Need-is-positive-requires
-is-positive-requires c κs = search needs
-
 returns : tie.Need-returns
 returns c = rw (← c .before .before .number-or .ensures, sym (c .before .is-positive .ensures) ∙ c .if1 .taken)
 
@@ -17,4 +11,4 @@ returns-2 : tie.Need-returns-2
 returns-2 c = rw (← c .before .before .number-or .ensures, sym (c .before .is-positive .ensures) ∙ c .if1 .left)
 
 pub spot-exponent-spec : {M : Type 1} → statement M
-spot-exponent-spec = tie.close (tie.spec number-or-requires is-positive-requires returns returns-2)
+spot-exponent-spec = tie.close (tie.spec (λ c κs. search needs) (λ c κs. search needs) returns returns-2)

@@ -3,21 +3,6 @@ use borrow.Author.Needs.{needs}
 use Rattle.fe_shape.proofs.base_frequency.Statement.{statement}
 use Rattle.fe_shape.proofs.base_frequency.Tie as tie
 
-numbers-of-requires : tie.Need-numbers-of-requires
-numbers-of-requires c κs = search needs
-
-enum-known-list : tie.Need-enum-known-list
-enum-known-list c = search needs
-
-list-pair-requires : tie.Need-list-pair-requires
-list-pair-requires c κs = search needs
-
-frequency-from-requires : tie.Need-frequency-from-requires
-frequency-from-requires c κs = search needs
-
-enum-told : tie.Need-enum-told
-enum-told c = search needs
-
 returns : tie.Need-returns
 returns c = rw (← c .before .before .before .before .before .numbers-of .ensures, c .before .before .before .list .given .1, ← c .before .list-pair .ensures) (c .frequency-from .ensures)
 
@@ -28,10 +13,10 @@ pub base-frequency-spec : {M : Type 1} → statement M
 base-frequency-spec =
     tie.close
     (tie.spec
-    numbers-of-requires
-    enum-known-list
-    list-pair-requires
-    frequency-from-requires
-    enum-told
+    (λ c κs. search needs)
+    (λ c. search needs)
+    (λ c κs. search needs)
+    (λ c κs. search needs)
+    (λ c. search needs)
     returns
     returns-2)

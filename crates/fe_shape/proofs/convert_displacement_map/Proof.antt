@@ -4,12 +4,6 @@ use borrow.Author.Needs.{needs}
 use Rattle.fe_shape.proofs.convert_displacement_map.Statement.{statement}
 use Rattle.fe_shape.proofs.convert_displacement_map.Tie as tie
 
-is-finite-requires : tie.Need-is-finite-requires
-is-finite-requires c κs = search needs
-
-displacement-map-requires : tie.Need-displacement-map-requires
-displacement-map-requires c κs = search needs
-
 returns : tie.Need-returns
 returns c = rw (c .displacement-map .ensures) (simp (sym (c .before .before .is-finite .ensures) ∙ c .before .if1 .taken))
 
@@ -18,4 +12,4 @@ returns-2 c = simp (sym (c .before .is-finite .ensures) ∙ c .if1 .left)
 
 pub convert-displacement-map-spec : {M : Type 1} → statement M
 convert-displacement-map-spec =
-    tie.close (tie.spec is-finite-requires displacement-map-requires returns returns-2)
+    tie.close (tie.spec (λ c κs. search needs) (λ c κs. search needs) returns returns-2)

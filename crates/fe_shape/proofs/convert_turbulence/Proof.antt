@@ -3,18 +3,6 @@ use borrow.Author.Needs.{needs}
 use Rattle.fe_shape.proofs.convert_turbulence.Statement.{statement}
 use Rattle.fe_shape.proofs.convert_turbulence.Tie as tie
 
-base-frequency-requires : tie.Need-base-frequency-requires
-base-frequency-requires c κs = search needs
-
-enum-known-found : tie.Need-enum-known-found
-enum-known-found c = search needs
-
-turbulence-fields-requires : tie.Need-turbulence-fields-requires
-turbulence-fields-requires c κs = search needs
-
-enum-told : tie.Need-enum-told
-enum-told c = search needs
-
 returns : tie.Need-returns
 returns c = rw (← c .before .before .before .before .base-frequency .ensures, c .before .before .found .given .1, c .turbulence-fields .ensures)
 
@@ -25,9 +13,9 @@ pub convert-turbulence-spec : {M : Type 1} → statement M
 convert-turbulence-spec =
     tie.close
     (tie.spec
-    base-frequency-requires
-    enum-known-found
-    turbulence-fields-requires
-    enum-told
+    (λ c κs. search needs)
+    (λ c. search needs)
+    (λ c κs. search needs)
+    (λ c. search needs)
     returns
     returns-2)

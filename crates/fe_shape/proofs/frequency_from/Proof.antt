@@ -4,12 +4,6 @@ use borrow.Author.Needs.{needs}
 use Rattle.fe_shape.proofs.frequency_from.Statement.{statement}
 use Rattle.fe_shape.proofs.frequency_from.Tie as tie
 
-signs-clear-requires : tie.Need-signs-clear-requires
-signs-clear-requires c κs = search needs
-
-if-positive-requires : tie.Need-if-positive-requires
-if-positive-requires c κs = search needs
-
 returns : tie.Need-returns
 returns c = simp (sym (c .before .before .signs-clear .ensures) ∙ c .before .if1 .taken) (c .if-positive .ensures)
 
@@ -18,4 +12,4 @@ returns-2 c = simp (sym (c .before .signs-clear .ensures) ∙ c .if1 .left)
 
 pub frequency-from-spec : {M : Type 1} → statement M
 frequency-from-spec =
-    tie.close (tie.spec signs-clear-requires if-positive-requires returns returns-2)
+    tie.close (tie.spec (λ c κs. search needs) (λ c κs. search needs) returns returns-2)

@@ -6,15 +6,9 @@ use borrow.Author.Needs.{needs}
 use Rattle.fe_shape.proofs.if_positive.Statement.{statement}
 use Rattle.fe_shape.proofs.if_positive.Tie as tie
 
-is-positive-requires : tie.Need-is-positive-requires
-is-positive-requires c κs = search needs
-
 returns : tie.Need-returns
 unfolding ifPositive
 returns c = simp (sym (c .before .is-positive .ensures) ∙ not-true (c .before .is-positive .result) (c .if1 .taken))
-
-is-positive-requires-2 : tie.Need-is-positive-requires-2
-is-positive-requires-2 c κs = search needs
 
 returns-2 : tie.Need-returns-2
 unfolding ifPositive
@@ -26,4 +20,4 @@ returns-3 c = simp (sym (c .before .before .before .is-positive .ensures) ∙ no
 
 pub if-positive-spec : {M : Type 1} → statement M
 if-positive-spec =
-    tie.close (tie.spec is-positive-requires returns is-positive-requires-2 returns-2 returns-3)
+    tie.close (tie.spec (λ c κs. search needs) returns (λ c κs. search needs) returns-2 returns-3)

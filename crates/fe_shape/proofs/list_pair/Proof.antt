@@ -5,20 +5,8 @@ use borrow.Author.Needs.{needs}
 use Rattle.fe_shape.proofs.list_pair.Statement.{statement}
 use Rattle.fe_shape.proofs.list_pair.Tie as tie
 
-numbers-len-requires : tie.Need-numbers-len-requires
-numbers-len-requires c κs = search needs
-
-number-at-requires : tie.Need-number-at-requires
-number-at-requires c κs = search needs
-
 returns : tie.Need-returns
 returns c = rw (c .number-at .ensures) (of-one _ (sym (c .before .before .numbers-len .ensures) ∙ c .before .if1 .taken))
-
-number-at-requires-2 : tie.Need-number-at-requires-2
-number-at-requires-2 c κs = search needs
-
-number-at-requires-3 : tie.Need-number-at-requires-3
-number-at-requires-3 c κs = search needs
 
 returns-2 : tie.Need-returns-2
 returns-2 c = rw (c .before .number-at2 .ensures, c .number-at3 .ensures) (of-two _ (sym (c .before .before .before .before .numbers-len .ensures) ∙ c .before .before .if2 .taken))
@@ -30,10 +18,10 @@ pub list-pair-spec : {M : Type 1} → statement M
 list-pair-spec =
     tie.close
     (tie.spec
-    numbers-len-requires
-    number-at-requires
+    (λ c κs. search needs)
+    (λ c κs. search needs)
     returns
-    number-at-requires-2
-    number-at-requires-3
+    (λ c κs. search needs)
+    (λ c κs. search needs)
     returns-2
     returns-3)

@@ -5,9 +5,6 @@ use borrow.Author.Needs.{needs}
 use Rattle.fe_shape.proofs.one_for_zero.Statement.{statement}
 use Rattle.fe_shape.proofs.one_for_zero.Tie as tie
 
-approx-zero-ulps-requires : tie.Need-approx-zero-ulps-requires
-approx-zero-ulps-requires c κs = search needs
-
 returns : tie.Need-returns
 unfolding oneForZero
 returns c = simp (sym (c .before .approx-zero-ulps .ensures) ∙ c .if1 .taken)
@@ -17,4 +14,4 @@ unfolding oneForZero
 returns-2 c = simp (sym (c .before .approx-zero-ulps .ensures) ∙ c .if1 .left)
 
 pub one-for-zero-spec : {M : Type 1} → statement M
-one-for-zero-spec = tie.close (tie.spec approx-zero-ulps-requires returns returns-2)
+one-for-zero-spec = tie.close (tie.spec (λ c κs. search needs) returns returns-2)

@@ -6,24 +6,6 @@ use borrow.Author.Needs.{needs}
 use Rattle.fe_shape.proofs.radius.Statement.{statement}
 use Rattle.fe_shape.proofs.radius.Tie as tie
 
-numbers-of-requires : tie.Need-numbers-of-requires
-numbers-of-requires c κs = search needs
-
-enum-known-list : tie.Need-enum-known-list
-enum-known-list c = search needs
-
-list-pair-requires : tie.Need-list-pair-requires
-list-pair-requires c κs = search needs
-
-ones-for-zeros-requires : tie.Need-ones-for-zeros-requires
-ones-for-zeros-requires c κs = search needs
-
-radius-from-requires : tie.Need-radius-from-requires
-radius-from-requires c κs = search needs
-
-enum-told : tie.Need-enum-told
-enum-told c = search needs
-
 returns : tie.Need-returns
 returns c =
     rw (← c .before .before .before .before .before .before .numbers-of .ensures, c .before .before .before .before .list .given .1)
@@ -36,11 +18,11 @@ pub radius-spec : {M : Type 1} → statement M
 radius-spec =
     tie.close
     (tie.spec
-    numbers-of-requires
-    enum-known-list
-    list-pair-requires
-    ones-for-zeros-requires
-    radius-from-requires
-    enum-told
+    (λ c κs. search needs)
+    (λ c. search needs)
+    (λ c κs. search needs)
+    (λ c κs. search needs)
+    (λ c κs. search needs)
+    (λ c. search needs)
     returns
     returns-2)

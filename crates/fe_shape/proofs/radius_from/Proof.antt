@@ -4,12 +4,6 @@ use borrow.Author.Needs.{needs}
 use Rattle.fe_shape.proofs.radius_from.Statement.{statement}
 use Rattle.fe_shape.proofs.radius_from.Tie as tie
 
-signs-clear-requires : tie.Need-signs-clear-requires
-signs-clear-requires c κs = search needs
-
-if-positive-requires : tie.Need-if-positive-requires
-if-positive-requires c κs = search needs
-
 returns : tie.Need-returns
 returns c = simp (sym (c .before .before .before .before .before .before .signs-clear .ensures) ∙ c .before .before .before .before .before .if1 .taken) (c .if-positive .ensures)
 
@@ -17,4 +11,4 @@ returns-2 : tie.Need-returns-2
 returns-2 c = simp (sym (c .before .signs-clear .ensures) ∙ c .if1 .left)
 
 pub radius-from-spec : {M : Type 1} → statement M
-radius-from-spec = tie.close (tie.spec signs-clear-requires if-positive-requires returns returns-2)
+radius-from-spec = tie.close (tie.spec (λ c κs. search needs) (λ c κs. search needs) returns returns-2)

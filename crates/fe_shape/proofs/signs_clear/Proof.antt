@@ -5,15 +5,9 @@ use borrow.Author.Needs.{needs}
 use Rattle.fe_shape.proofs.signs_clear.Statement.{statement}
 use Rattle.fe_shape.proofs.signs_clear.Tie as tie
 
-is-sign-negative-requires : tie.Need-is-sign-negative-requires
-is-sign-negative-requires c κs = search needs
-
 returns : tie.Need-returns
 unfolding signsClear
 returns c = simp (sym (c .before .is-sign-negative .ensures) ∙ c .if1 .taken)
-
-is-sign-negative-requires-2 : tie.Need-is-sign-negative-requires-2
-is-sign-negative-requires-2 c κs = search needs
 
 returns-2 : tie.Need-returns-2
 unfolding signsClear
@@ -21,4 +15,4 @@ returns-2 c = simp (sym (c .before .before .is-sign-negative .ensures) ∙ c .be
 
 pub signs-clear-spec : {M : Type 1} → statement M
 signs-clear-spec =
-    tie.close (tie.spec is-sign-negative-requires returns is-sign-negative-requires-2 returns-2)
+    tie.close (tie.spec (λ c κs. search needs) returns (λ c κs. search needs) returns-2)

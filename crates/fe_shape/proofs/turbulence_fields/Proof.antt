@@ -11,30 +11,6 @@ use borrow.Author.Needs.{needs}
 use Rattle.fe_shape.proofs.turbulence_fields.Statement.{statement}
 use Rattle.fe_shape.proofs.turbulence_fields.Tie as tie
 
-number-or-requires : tie.Need-number-or-requires
-number-or-requires c κs = search needs
-
-octaves-requires : tie.Need-octaves-requires
-octaves-requires c κs = search needs
-
-number-or-requires-2 : tie.Need-number-or-requires-2
-number-or-requires-2 c κs = search needs
-
-f32-to-i32-requires : tie.Need-f32-to-i32-requires
-f32-to-i32-requires c κs = search needs
-
-text-of-requires : tie.Need-text-of-requires
-text-of-requires c κs = search needs
-
-slice-aggregate-is-word : tie.Need-slice-aggregate-is-word
-slice-aggregate-is-word c = search needs
-
-is-word-requires : tie.Need-is-word-requires
-is-word-requires c κs = search needs
-
-turbulence-kind-requires : tie.Need-turbulence-kind-requires
-turbulence-kind-requires c κs = search needs
-
 returns : tie.Need-returns
 returns c =
     rw (
@@ -51,12 +27,12 @@ pub turbulence-fields-spec : {M : Type 1} → statement M
 turbulence-fields-spec =
     tie.close
     (tie.spec
-    number-or-requires
-    octaves-requires
-    number-or-requires-2
-    f32-to-i32-requires
-    text-of-requires
-    slice-aggregate-is-word
-    is-word-requires
-    turbulence-kind-requires
+    (λ c κs. search needs)
+    (λ c κs. search needs)
+    (λ c κs. search needs)
+    (λ c κs. search needs)
+    (λ c κs. search needs)
+    (λ c. search needs)
+    (λ c κs. search needs)
+    (λ c κs. search needs)
     returns)

@@ -9,15 +9,9 @@ returns : tie.Need-returns
 unfolding argumentsOk
 returns c = simp (le-leb _ _ (c .if1 .taken))
 
-byte-requires : tie.Need-byte-requires
-byte-requires c κs = search needs
-
 returns-2 : tie.Need-returns-2
 unfolding argumentsOk
 returns-2 c = rw (lt-leb _ _ (c .before .before .if1 .left), eq-eqb _ _ (c .before .if2 .taken), ← c .byte .ensures)
-
-shadow-ok-requires : tie.Need-shadow-ok-requires
-shadow-ok-requires c κs = search needs
 
 returns-3 : tie.Need-returns-3
 unfolding argumentsOk
@@ -25,4 +19,4 @@ returns-3 c = simp (lt-leb _ _ (c .before .before .if1 .left), ne-eqb _ _ (c .be
 
 pub arguments-ok-spec : {M : Type 1} → statement M
 arguments-ok-spec =
-    tie.close (tie.spec returns byte-requires returns-2 shadow-ok-requires returns-3)
+    tie.close (tie.spec returns (λ c κs. search needs) returns-2 (λ c κs. search needs) returns-3)

@@ -8,12 +8,9 @@ use borrow.Author.Needs.{needs}
 use Rattle.functions.proofs.convert_brightness_function.Statement.{statement}
 use Rattle.functions.proofs.convert_brightness_function.Tie as tie
 
-double-narrowed-requires : tie.Need-double-narrowed-requires
-double-narrowed-requires c κs = search needs
-
 returns : tie.Need-returns
 unfolding doubleOf
 returns c = ap (λ (a : Float). Linear a zero) (c .double-narrowed .ensures)
 
 pub convert-brightness-function-spec : {M : Type 1} → statement M
-convert-brightness-function-spec = tie.close (tie.spec double-narrowed-requires returns)
+convert-brightness-function-spec = tie.close (tie.spec (λ c κs. search needs) returns)

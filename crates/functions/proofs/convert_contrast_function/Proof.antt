@@ -8,12 +8,9 @@ use borrow.Author.Needs.{needs}
 use Rattle.functions.proofs.convert_contrast_function.Statement.{statement}
 use Rattle.functions.proofs.convert_contrast_function.Tie as tie
 
-double-narrowed-requires : tie.Need-double-narrowed-requires
-double-narrowed-requires c κs = search needs
-
 returns : tie.Need-returns
 unfolding doubleOf contrastIntercept round ofBits
 returns c = ap (λ (a : Float). Linear a (contrastIntercept a)) (c .double-narrowed .ensures)
 
 pub convert-contrast-function-spec : {M : Type 1} → statement M
-convert-contrast-function-spec = tie.close (tie.spec double-narrowed-requires returns)
+convert-contrast-function-spec = tie.close (tie.spec (λ c κs. search needs) returns)

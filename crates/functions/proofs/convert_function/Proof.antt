@@ -8,20 +8,11 @@ use borrow.Author.Needs.{needs}
 use Rattle.functions.proofs.convert_function.Statement.{statement}
 use Rattle.functions.proofs.convert_function.Tie as tie
 
-first-refusal-requires : tie.Need-first-refusal-requires
-first-refusal-requires c κs = search needs
-
-refusal-number-requires : tie.Need-refusal-number-requires
-refusal-number-requires c κs = search needs
-
 returns : tie.Need-returns
 returns c = refused-call (now (c .before .before .before .before .before .args .«record»)) (now (c .before .before .before .before .before .args .out)) (c .before .refusal-number .result) (c .before .refusal-number .ensures ∙ ap refusalNumber (c .before .before .first-refusal .ensures)) (c .if1 .taken)
 
 put-function-requires : tie.Need-put-function-requires
 put-function-requires c κs = room-for (now (c .before .before .before .before .before .before .args .«record»)) (length (now (c .before .before .before .before .before .before .args .out))) (sym (c .before .before .refusal-number .ensures ∙ ap refusalNumber (c .before .before .before .first-refusal .ensures)) ∙ c .before .if1 .left)
-
-same-length : tie.Need-same-length
-same-length c = search needs
 
 returns-2 : tie.Need-returns-2
 returns-2 c = given-call (now (c .before .before .before .before .before .before .before .before .before .args .«record»)) (now (c .before .before .before .before .before .before .before .before .before .args .out)) _ (c .before .before .put-function .result) (λ i. c .before .before .before .before .before .before .before .before .shared-slice-known .given i .fits) (sym (c .before .before .before .before .before .refusal-number .ensures ∙ ap refusalNumber (c .before .before .before .before .before .before .first-refusal .ensures)) ∙ c .before .before .before .before .if1 .left) (c .before .before .put-function .ensures)
@@ -30,9 +21,9 @@ pub convert-function-spec : {M : Type 1} → statement M
 convert-function-spec =
     tie.close
     (tie.spec
-    first-refusal-requires
-    refusal-number-requires
+    (λ c κs. search needs)
+    (λ c κs. search needs)
     returns
     put-function-requires
-    same-length
+    (λ c. search needs)
     returns-2)

@@ -6,12 +6,9 @@ use borrow.Author.Needs.{needs}
 use Rattle.functions.proofs.convert_grayscale_function.Statement.{statement}
 use Rattle.functions.proofs.convert_grayscale_function.Tie as tie
 
-held-at-one-requires : tie.Need-held-at-one-requires
-held-at-one-requires c κs = search needs
-
 returns : tie.Need-returns
 unfolding grayscaleMatrix round ofBits
 returns c = ap grayscaleMatrix (c .held-at-one .ensures)
 
 pub convert-grayscale-function-spec : {M : Type 1} → statement M
-convert-grayscale-function-spec = tie.close (tie.spec held-at-one-requires returns)
+convert-grayscale-function-spec = tie.close (tie.spec (λ c κs. search needs) returns)

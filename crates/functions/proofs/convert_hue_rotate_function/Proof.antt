@@ -4,12 +4,9 @@ use borrow.Author.Needs.{needs}
 use Rattle.functions.proofs.convert_hue_rotate_function.Statement.{statement}
 use Rattle.functions.proofs.convert_hue_rotate_function.Tie as tie
 
-double-narrowed-requires : tie.Need-double-narrowed-requires
-double-narrowed-requires c κs = search needs
-
 returns : tie.Need-returns
 unfolding doubleOf
 returns c = c .double-narrowed .ensures
 
 pub convert-hue-rotate-function-spec : {M : Type 1} → statement M
-convert-hue-rotate-function-spec = tie.close (tie.spec double-narrowed-requires returns)
+convert-hue-rotate-function-spec = tie.close (tie.spec (λ c κs. search needs) returns)

@@ -5,12 +5,9 @@ use borrow.Author.Needs.{needs}
 use Rattle.functions.proofs.convert_invert_function.Statement.{statement}
 use Rattle.functions.proofs.convert_invert_function.Tie as tie
 
-held-at-one-requires : tie.Need-held-at-one-requires
-held-at-one-requires c κs = search needs
-
 returns : tie.Need-returns
 unfolding invertTable
 returns c = ap invertTable (c .held-at-one .ensures)
 
 pub convert-invert-function-spec : {M : Type 1} → statement M
-convert-invert-function-spec = tie.close (tie.spec held-at-one-requires returns)
+convert-invert-function-spec = tie.close (tie.spec (λ c κs. search needs) returns)

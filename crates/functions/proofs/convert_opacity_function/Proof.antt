@@ -5,12 +5,9 @@ use borrow.Author.Needs.{needs}
 use Rattle.functions.proofs.convert_opacity_function.Statement.{statement}
 use Rattle.functions.proofs.convert_opacity_function.Tie as tie
 
-held-at-one-requires : tie.Need-held-at-one-requires
-held-at-one-requires c κs = search needs
-
 returns : tie.Need-returns
 unfolding opacityTable
 returns c = ap opacityTable (c .held-at-one .ensures)
 
 pub convert-opacity-function-spec : {M : Type 1} → statement M
-convert-opacity-function-spec = tie.close (tie.spec held-at-one-requires returns)
+convert-opacity-function-spec = tie.close (tie.spec (λ c κs. search needs) returns)

@@ -6,16 +6,10 @@ use borrow.Author.Needs.{needs}
 use Rattle.functions.proofs.convert_saturate_function.Statement.{statement}
 use Rattle.functions.proofs.convert_saturate_function.Tie as tie
 
-double-narrowed-requires : tie.Need-double-narrowed-requires
-double-narrowed-requires c κs = search needs
-
-positive-or-zero-requires : tie.Need-positive-or-zero-requires
-positive-or-zero-requires c κs = search needs
-
 returns : tie.Need-returns
 unfolding doubleOf
 returns c = c .positive-or-zero .ensures ∙ ap positiveOrZero (c .before .double-narrowed .ensures)
 
 pub convert-saturate-function-spec : {M : Type 1} → statement M
 convert-saturate-function-spec =
-    tie.close (tie.spec double-narrowed-requires positive-or-zero-requires returns)
+    tie.close (tie.spec (λ c κs. search needs) (λ c κs. search needs) returns)

@@ -6,12 +6,9 @@ use borrow.Author.Needs.{needs}
 use Rattle.functions.proofs.convert_sepia_function.Statement.{statement}
 use Rattle.functions.proofs.convert_sepia_function.Tie as tie
 
-held-at-one-requires : tie.Need-held-at-one-requires
-held-at-one-requires c κs = search needs
-
 returns : tie.Need-returns
 unfolding sepiaMatrix round ofBits
 returns c = ap sepiaMatrix (c .held-at-one .ensures)
 
 pub convert-sepia-function-spec : {M : Type 1} → statement M
-convert-sepia-function-spec = tie.close (tie.spec held-at-one-requires returns)
+convert-sepia-function-spec = tie.close (tie.spec (λ c κs. search needs) returns)

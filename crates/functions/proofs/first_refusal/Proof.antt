@@ -6,22 +6,13 @@ use borrow.Author.Needs.{needs}
 use Rattle.functions.proofs.first_refusal.Statement.{statement}
 use Rattle.functions.proofs.first_refusal.Tie as tie
 
-layout-ok-requires : tie.Need-layout-ok-requires
-layout-ok-requires c κs = search needs
-
 returns : tie.Need-returns
 unfolding firstRefusal
 returns c = simp (sym (c .before .layout-ok .ensures) ∙ not-true _ (c .if1 .taken))
 
-numbers-ok-requires : tie.Need-numbers-ok-requires
-numbers-ok-requires c κs = search needs
-
 returns-2 : tie.Need-returns-2
 unfolding firstRefusal
 returns-2 c = simp (sym (c .before .before .before .layout-ok .ensures) ∙ not-false _ (c .before .before .if1 .left), sym (c .before .numbers-ok .ensures) ∙ not-true _ (c .if2 .taken))
-
-kind-size-requires : tie.Need-kind-size-requires
-kind-size-requires c κs = search needs
 
 returns-3 : tie.Need-returns-3
 unfolding firstRefusal
@@ -35,10 +26,10 @@ pub first-refusal-spec : {M : Type 1} → statement M
 first-refusal-spec =
     tie.close
     (tie.spec
-    layout-ok-requires
+    (λ c κs. search needs)
     returns
-    numbers-ok-requires
+    (λ c κs. search needs)
     returns-2
-    kind-size-requires
+    (λ c κs. search needs)
     returns-3
     returns-4)

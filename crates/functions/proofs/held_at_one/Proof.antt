@@ -6,18 +6,9 @@ use borrow.Author.Needs.{needs}
 use Rattle.functions.proofs.held_at_one.Statement.{statement}
 use Rattle.functions.proofs.held_at_one.Tie as tie
 
-is-above-one-requires : tie.Need-is-above-one-requires
-is-above-one-requires c κs = search needs
-
-double-narrowed-requires : tie.Need-double-narrowed-requires
-double-narrowed-requires c κs = search needs
-
 returns : tie.Need-returns
 unfolding held doubleOf
 returns c = rw (sym (c .before .before .is-above-one .ensures) ∙ c .before .if1 .taken) (c .double-narrowed .ensures)
-
-double-narrowed-requires-2 : tie.Need-double-narrowed-requires-2
-double-narrowed-requires-2 c κs = search needs
 
 returns-2 : tie.Need-returns-2
 unfolding held doubleOf
@@ -27,8 +18,8 @@ pub held-at-one-spec : {M : Type 1} → statement M
 held-at-one-spec =
     tie.close
     (tie.spec
-    is-above-one-requires
-    double-narrowed-requires
+    (λ c κs. search needs)
+    (λ c κs. search needs)
     returns
-    double-narrowed-requires-2
+    (λ c κs. search needs)
     returns-2)

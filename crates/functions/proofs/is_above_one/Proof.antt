@@ -7,11 +7,8 @@ use Rattle.functions.proofs.is_above_one.Tie as tie
 float-from-bits-result : tie.Need-float-from-bits-result
 float-from-bits-result c = no-nan (c .before .args .bits) (c .if1 .taken)
 
-returns : tie.Need-returns
-returns c = search needs
-
 returns-2 : tie.Need-returns-2
 returns-2 c = nan-not-above (c .before .args .bits) (c .if1 .left)
 
 pub is-above-one-spec : {M : Type 1} → statement M
-is-above-one-spec = tie.close (tie.spec float-from-bits-result returns returns-2)
+is-above-one-spec = tie.close (tie.spec float-from-bits-result (λ c. search needs) returns-2)

@@ -8,9 +8,6 @@ use borrow.Author.Needs.{needs}
 use Rattle.functions.proofs.kind_size.Statement.{statement}
 use Rattle.functions.proofs.kind_size.Tie as tie
 
-byte-requires : tie.Need-byte-requires
-byte-requires c κs = search needs
-
 returns : tie.Need-returns
 unfolding ofAmount functionBy
 returns c = sym (size-by (now (c .before .before .before .args .s)) 0 (sym (c .before .byte .ensures) ∙ c .match .keys1))
@@ -54,7 +51,7 @@ pub kind-size-spec : {M : Type 1} → statement M
 kind-size-spec =
     tie.close
     (tie.spec
-    byte-requires
+    (λ c κs. search needs)
     returns
     returns-2
     returns-3

@@ -5,22 +5,13 @@ use borrow.Author.Needs.{needs}
 use Rattle.functions.proofs.layout_ok.Statement.{statement}
 use Rattle.functions.proofs.layout_ok.Tie as tie
 
-byte-requires : tie.Need-byte-requires
-byte-requires c κs = search needs
-
 returns : tie.Need-returns
 unfolding layoutOk
 returns c = rw (← c .before .byte .ensures) (simp (lt-leb _ _ (c .if1 .taken)))
 
-record-size-requires : tie.Need-record-size-requires
-record-size-requires c κs = search needs
-
 returns-2 : tie.Need-returns-2
 unfolding layoutOk
 returns-2 c = rw (← c .before .before .before .byte .ensures, ← c .before .record-size .ensures) (simp (le-leb _ _ (c .before .before .if1 .left), ne-eqb _ _ (c .if2 .taken)))
-
-arguments-ok-requires : tie.Need-arguments-ok-requires
-arguments-ok-requires c κs = search needs
 
 returns-3 : tie.Need-returns-3
 unfolding layoutOk
@@ -29,4 +20,4 @@ returns-3 c = rw (← c .before .before .before .before .byte .ensures, ← c .b
 pub layout-ok-spec : {M : Type 1} → statement M
 layout-ok-spec =
     tie.close
-    (tie.spec byte-requires returns record-size-requires returns-2 arguments-ok-requires returns-3)
+    (tie.spec (λ c κs. search needs) returns (λ c κs. search needs) returns-2 (λ c κs. search needs) returns-3)

@@ -6,29 +6,17 @@ use borrow.Author.Needs.{needs}
 use Rattle.functions.proofs.numbers_ok.Statement.{statement}
 use Rattle.functions.proofs.numbers_ok.Tie as tie
 
-is-view-box-length-at-requires : tie.Need-is-view-box-length-at-requires
-is-view-box-length-at-requires c κs = search needs
-
 returns : tie.Need-returns
 unfolding numbersOk
 returns c = simp (sym (c .before .is-view-box-length-at .ensures) ∙ not-true _ (c .if1 .taken))
-
-is-valid-length-at-requires : tie.Need-is-valid-length-at-requires
-is-valid-length-at-requires c κs = search needs
 
 returns-2 : tie.Need-returns-2
 unfolding numbersOk
 returns-2 c = simp (sym (c .before .before .before .is-view-box-length-at .ensures) ∙ not-false _ (c .before .before .if1 .left), sym (c .before .is-valid-length-at .ensures) ∙ not-true _ (c .if2 .taken))
 
-is-positive-at-requires : tie.Need-is-positive-at-requires
-is-positive-at-requires c κs = search needs
-
 returns-3 : tie.Need-returns-3
 unfolding numbersOk
 returns-3 c = simp (sym (c .before .before .before .before .before .is-view-box-length-at .ensures) ∙ not-false _ (c .before .before .before .before .if1 .left), sym (c .before .before .before .is-valid-length-at .ensures) ∙ not-false _ (c .before .before .if2 .left), sym (c .before .is-positive-at .ensures) ∙ not-true _ (c .if3 .taken))
-
-function-numbers-ok-requires : tie.Need-function-numbers-ok-requires
-function-numbers-ok-requires c κs = search needs
 
 returns-4 : tie.Need-returns-4
 unfolding numbersOk
@@ -38,11 +26,11 @@ pub numbers-ok-spec : {M : Type 1} → statement M
 numbers-ok-spec =
     tie.close
     (tie.spec
-    is-view-box-length-at-requires
+    (λ c κs. search needs)
     returns
-    is-valid-length-at-requires
+    (λ c κs. search needs)
     returns-2
-    is-positive-at-requires
+    (λ c κs. search needs)
     returns-3
-    function-numbers-ok-requires
+    (λ c κs. search needs)
     returns-4)

@@ -5,9 +5,6 @@ use borrow.Author.Needs.{needs}
 use Rattle.functions.proofs.positive_or_zero.Statement.{statement}
 use Rattle.functions.proofs.positive_or_zero.Tie as tie
 
-is-positive-requires : tie.Need-is-positive-requires
-is-positive-requires c κs = search needs
-
 returns : tie.Need-returns
 unfolding positiveOrZero
 returns c = rw (sym (c .before .is-positive .ensures) ∙ c .if1 .taken)
@@ -17,4 +14,4 @@ unfolding positiveOrZero
 returns-2 c = rw (sym (c .before .is-positive .ensures) ∙ c .if1 .left)
 
 pub positive-or-zero-spec : {M : Type 1} → statement M
-positive-or-zero-spec = tie.close (tie.spec is-positive-requires returns returns-2)
+positive-or-zero-spec = tie.close (tie.spec (λ c κs. search needs) returns returns-2)

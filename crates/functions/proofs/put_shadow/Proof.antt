@@ -5,19 +5,10 @@ use borrow.Author.Needs.{needs}
 use Rattle.functions.proofs.put_shadow.Statement.{statement}
 use Rattle.functions.proofs.put_shadow.Tie as tie
 
-put-head-requires : tie.Need-put-head-requires
-put-head-requires c κs = search needs
-
-put-drop-shadow-requires : tie.Need-put-drop-shadow-requires
-put-drop-shadow-requires c κs = search needs
-
-same-length : tie.Need-same-length
-same-length c = search needs
-
 returns : tie.Need-returns
 unfolding kindBytes
 returns c = c .before .before .before .before .before .before .put-head .ensures then c .before .before .put-drop-shadow .ensures
 
 pub put-shadow-spec : {M : Type 1} → statement M
 put-shadow-spec =
-    tie.close (tie.spec put-head-requires put-drop-shadow-requires same-length returns)
+    tie.close (tie.spec (λ c κs. search needs) (λ c κs. search needs) (λ c. search needs) returns)

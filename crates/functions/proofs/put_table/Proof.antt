@@ -6,18 +6,6 @@ use borrow.Author.Needs.{needs}
 use Rattle.functions.proofs.put_table.Statement.{statement}
 use Rattle.functions.proofs.put_table.Tie as tie
 
-put-u8-requires : tie.Need-put-u8-requires
-put-u8-requires c κs = search needs
-
-slice-aggregate-put-values : tie.Need-slice-aggregate-put-values
-slice-aggregate-put-values c = search needs
-
-put-values-requires : tie.Need-put-values-requires
-put-values-requires c κs = search needs
-
-same-length : tie.Need-same-length
-same-length c = search needs
-
 returns : tie.Need-returns
 unfolding transferFunctionBytes
 returns c = c .before .before .before .before .before .before .before .put-u8 .ensures then c .before .before .put-values .ensures counted omega arith
@@ -25,4 +13,4 @@ returns c = c .before .before .before .before .before .before .before .put-u8 .e
 pub put-table-spec : {M : Type 1} → statement M
 put-table-spec =
     tie.close
-    (tie.spec put-u8-requires slice-aggregate-put-values put-values-requires same-length returns)
+    (tie.spec (λ c κs. search needs) (λ c. search needs) (λ c κs. search needs) (λ c. search needs) returns)

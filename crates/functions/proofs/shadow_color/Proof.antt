@@ -5,18 +5,9 @@ use borrow.Author.Needs.{needs}
 use Rattle.functions.proofs.shadow_color.Statement.{statement}
 use Rattle.functions.proofs.shadow_color.Tie as tie
 
-byte-requires : tie.Need-byte-requires
-byte-requires c κs = search needs
-
-color-from-requires : tie.Need-color-from-requires
-color-from-requires c κs = search needs
-
 returns : tie.Need-returns
 unfolding flaggedColor
 returns c = rw (← c .before .before .byte .ensures, eq-eqb _ _ (c .before .if1 .taken)) (c .color-from .ensures)
-
-color-from-requires-2 : tie.Need-color-from-requires-2
-color-from-requires-2 c κs = search needs
 
 returns-2 : tie.Need-returns-2
 unfolding flaggedColor
@@ -24,4 +15,4 @@ returns-2 c = rw (← c .before .before .byte .ensures, ne-eqb _ _ (c .before .i
 
 pub shadow-color-spec : {M : Type 1} → statement M
 shadow-color-spec =
-    tie.close (tie.spec byte-requires color-from-requires returns color-from-requires-2 returns-2)
+    tie.close (tie.spec (λ c κs. search needs) (λ c κs. search needs) returns (λ c κs. search needs) returns-2)

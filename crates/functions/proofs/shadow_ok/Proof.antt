@@ -6,32 +6,17 @@ use borrow.Author.Needs.{needs}
 use Rattle.functions.proofs.shadow_ok.Statement.{statement}
 use Rattle.functions.proofs.shadow_ok.Tie as tie
 
-byte-requires : tie.Need-byte-requires
-byte-requires c κs = search needs
-
-marked-ok-requires : tie.Need-marked-ok-requires
-marked-ok-requires c κs = search needs
-
 returns : tie.Need-returns
 unfolding shadowOk
 returns c = rw (← c .before .before .byte .ensures) (simp (sym (c .before .marked-ok .ensures) ∙ not-true _ (c .if1 .taken)))
-
-byte-requires-2 : tie.Need-byte-requires-2
-byte-requires-2 c κs = search needs
 
 returns-2 : tie.Need-returns-2
 unfolding shadowOk
 returns-2 c = rw (← c .before .before .before .before .byte .ensures, ← c .before .byte2 .ensures) (simp (sym (c .before .before .before .marked-ok .ensures) ∙ not-false _ (c .before .before .if1 .left), lt-leb _ _ (c .if2 .taken)))
 
-byte-requires-3 : tie.Need-byte-requires-3
-byte-requires-3 c κs = search needs
-
 returns-3 : tie.Need-returns-3
 unfolding shadowOk
 returns-3 c = rw (← c .before .before .before .before .before .before .byte .ensures, ← c .before .before .before .byte2 .ensures, ← c .before .byte3 .ensures) (simp (sym (c .before .before .before .before .before .marked-ok .ensures) ∙ not-false _ (c .before .before .before .before .if1 .left), le-leb _ _ (c .before .before .if2 .left), lt-leb _ _ (c .if3 .taken)))
-
-byte-requires-4 : tie.Need-byte-requires-4
-byte-requires-4 c κs = search needs
 
 returns-4 : tie.Need-returns-4
 unfolding shadowOk
@@ -41,12 +26,12 @@ pub shadow-ok-spec : {M : Type 1} → statement M
 shadow-ok-spec =
     tie.close
     (tie.spec
-    byte-requires
-    marked-ok-requires
+    (λ c κs. search needs)
+    (λ c κs. search needs)
     returns
-    byte-requires-2
+    (λ c κs. search needs)
     returns-2
-    byte-requires-3
+    (λ c κs. search needs)
     returns-3
-    byte-requires-4
+    (λ c κs. search needs)
     returns-4)

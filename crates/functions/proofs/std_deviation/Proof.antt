@@ -5,14 +5,8 @@ use borrow.Author.Needs.{needs}
 use Rattle.functions.proofs.std_deviation.Statement.{statement}
 use Rattle.functions.proofs.std_deviation.Tie as tie
 
-user-length-requires : tie.Need-user-length-requires
-user-length-requires c κs = search needs
-
-positive-or-zero-requires : tie.Need-positive-or-zero-requires
-positive-or-zero-requires c κs = search needs
-
 returns : tie.Need-returns
 returns c = c .positive-or-zero .ensures ∙ ap positiveOrZero (c .before .user-length .ensures)
 
 pub std-deviation-spec : {M : Type 1} → statement M
-std-deviation-spec = tie.close (tie.spec user-length-requires positive-or-zero-requires returns)
+std-deviation-spec = tie.close (tie.spec (λ c κs. search needs) (λ c κs. search needs) returns)

@@ -6,21 +6,6 @@ use borrow.Author.Needs.{needs}
 use Rattle.functions.proofs.user_length.Statement.{statement}
 use Rattle.functions.proofs.user_length.Tie as tie
 
-length-from-requires : tie.Need-length-from-requires
-length-from-requires c κs = search needs
-
-get32-requires : tie.Need-get32-requires
-get32-requires c κs = search needs
-
-single-requires : tie.Need-single-requires
-single-requires c κs = search needs
-
-state-of-requires : tie.Need-state-of-requires
-state-of-requires c κs = search needs
-
-convert-length-requires : tie.Need-convert-length-requires
-convert-length-requires c κs = search needs
-
 returns : tie.Need-returns
 unfolding singleOf lengthIn userLength
 returns c = cc
@@ -29,9 +14,9 @@ pub user-length-spec : {M : Type 1} → statement M
 user-length-spec =
     tie.close
     (tie.spec
-    length-from-requires
-    get32-requires
-    single-requires
-    state-of-requires
-    convert-length-requires
+    (λ c κs. search needs)
+    (λ c κs. search needs)
+    (λ c κs. search needs)
+    (λ c κs. search needs)
+    (λ c κs. search needs)
     returns)

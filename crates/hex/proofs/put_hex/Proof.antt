@@ -23,27 +23,6 @@ loop-holds : tie.Need-loop-holds Inv-loop μ-loop
 unfolding hexOf patch
 loop-holds c = search needs
 
-byte-requires : tie.Need-byte-requires Inv-loop μ-loop
-byte-requires c κs = search needs
-
-digit-requires : tie.Need-digit-requires Inv-loop μ-loop
-digit-requires c κs = search needs
-
-put-u8-requires : tie.Need-put-u8-requires Inv-loop μ-loop
-put-u8-requires c κs = search needs
-
-digit-requires-2 : tie.Need-digit-requires-2 Inv-loop μ-loop
-digit-requires-2 c κs = search needs
-
-put-u8-requires-2 : tie.Need-put-u8-requires-2 Inv-loop μ-loop
-put-u8-requires-2 c κs = search needs
-
-add-j : tie.Need-add-j Inv-loop μ-loop
-add-j c = search needs
-
-loop-less : tie.Need-loop-less Inv-loop μ-loop
-loop-less c = search needs
-
 loop-again : tie.Need-loop-again Inv-loop μ-loop
 loop-again c =
     let s = now (c .before .before .before .before .before .before .before .before .before .before .before .before .before .before .before .args .s) in
@@ -53,9 +32,6 @@ loop-again c =
     let high : glyph (getD s j 0 / 16) ≡ c .before .before .before .before .before .before .before .before .digit .result = sym (c .before .before .before .before .before .before .before .before .digit .ensures ∙ ap (λ (b : ℕ). glyph (b / 16)) b) in
     let low : glyph (getD s j 0 % 16) ≡ c .before .before .before .digit2 .result = sym (c .before .before .before .digit2 .ensures ∙ ap (λ (b : ℕ). glyph (b % 16)) b) in
     (search needs, search needs, rw (hex-more s j h, high, low) (c .before .before .before .before .before .before .before .before .before .before .before .before .loop .inv .2 then c .before .before .before .before .before .before .before .put-u8 .ensures then c .before .before .put-u82 .ensures counted omega arith))
-
-same-length : tie.Need-same-length Inv-loop μ-loop
-same-length c = search needs
 
 returns : tie.Need-returns Inv-loop μ-loop
 returns c =
@@ -71,13 +47,13 @@ put-hex-spec =
     Inv-loop
     μ-loop
     loop-holds
-    byte-requires
-    digit-requires
-    put-u8-requires
-    digit-requires-2
-    put-u8-requires-2
-    add-j
-    loop-less
+    (λ c κs. search needs)
+    (λ c κs. search needs)
+    (λ c κs. search needs)
+    (λ c κs. search needs)
+    (λ c κs. search needs)
+    (λ c. search needs)
+    (λ c. search needs)
     loop-again
-    same-length
+    (λ c. search needs)
     returns)

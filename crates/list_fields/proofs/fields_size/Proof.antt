@@ -10,72 +10,6 @@ use borrow.Author.Needs.{needs}
 use Rattle.list_fields.proofs.fields_size.Statement.{statement}
 use Rattle.list_fields.proofs.fields_size.Tie as tie
 
-enum-told : tie.Need-enum-told
-enum-told c = search needs
-
-enum-known-kind : tie.Need-enum-known-kind
-enum-known-kind c = search needs
-
-color-matrix-kind-size-requires : tie.Need-color-matrix-kind-size-requires
-color-matrix-kind-size-requires c κs = search needs
-
-enum-known-kind-2 : tie.Need-enum-known-kind-2
-enum-known-kind-2 c = search needs
-
-component-transfer-size-requires : tie.Need-component-transfer-size-requires
-component-transfer-size-requires c κs = search needs
-
-enum-known-kind-3 : tie.Need-enum-known-kind-3
-enum-known-kind-3 c = search needs
-
-composite-operator-size-requires : tie.Need-composite-operator-size-requires
-composite-operator-size-requires c κs = search needs
-
-enum-known-kind-4 : tie.Need-enum-known-kind-4
-enum-known-kind-4 c = search needs
-
-convolve-matrix-size-requires : tie.Need-convolve-matrix-size-requires
-convolve-matrix-size-requires c κs = search needs
-
-enum-known-kind-5 : tie.Need-enum-known-kind-5
-enum-known-kind-5 c = search needs
-
-diffuse-lighting-size-requires : tie.Need-diffuse-lighting-size-requires
-diffuse-lighting-size-requires c κs = search needs
-
-enum-told-2 : tie.Need-enum-told-2
-enum-told-2 c = search needs
-
-enum-told-3 : tie.Need-enum-told-3
-enum-told-3 c = search needs
-
-enum-told-4 : tie.Need-enum-told-4
-enum-told-4 c = search needs
-
-enum-told-5 : tie.Need-enum-told-5
-enum-told-5 c = search needs
-
-enum-told-6 : tie.Need-enum-told-6
-enum-told-6 c = search needs
-
-enum-told-7 : tie.Need-enum-told-7
-enum-told-7 c = search needs
-
-enum-told-8 : tie.Need-enum-told-8
-enum-told-8 c = search needs
-
-enum-known-kind-6 : tie.Need-enum-known-kind-6
-enum-known-kind-6 c = search needs
-
-specular-lighting-size-requires : tie.Need-specular-lighting-size-requires
-specular-lighting-size-requires c κs = search needs
-
-enum-told-9 : tie.Need-enum-told-9
-enum-told-9 c = search needs
-
-enum-told-10 : tie.Need-enum-told-10
-enum-told-10 c = search needs
-
 returns : tie.Need-returns
 returns c = (omega (arith, fields-long (now (c .before .before .before .args .s)) (c .before .before .before .args .kind), ap (fieldsLong (now (c .before .before .before .args .s))) (c .enum-told .given .1)), omega arith)
 
@@ -128,28 +62,28 @@ pub fields-size-spec : {M : Type 1} → statement M
 fields-size-spec =
     tie.close
     (tie.spec
-    enum-told
-    enum-known-kind
-    color-matrix-kind-size-requires
-    enum-known-kind-2
-    component-transfer-size-requires
-    enum-known-kind-3
-    composite-operator-size-requires
-    enum-known-kind-4
-    convolve-matrix-size-requires
-    enum-known-kind-5
-    diffuse-lighting-size-requires
-    enum-told-2
-    enum-told-3
-    enum-told-4
-    enum-told-5
-    enum-told-6
-    enum-told-7
-    enum-told-8
-    enum-known-kind-6
-    specular-lighting-size-requires
-    enum-told-9
-    enum-told-10
+    (λ c. search needs)
+    (λ c. search needs)
+    (λ c κs. search needs)
+    (λ c. search needs)
+    (λ c κs. search needs)
+    (λ c. search needs)
+    (λ c κs. search needs)
+    (λ c. search needs)
+    (λ c κs. search needs)
+    (λ c. search needs)
+    (λ c κs. search needs)
+    (λ c. search needs)
+    (λ c. search needs)
+    (λ c. search needs)
+    (λ c. search needs)
+    (λ c. search needs)
+    (λ c. search needs)
+    (λ c. search needs)
+    (λ c. search needs)
+    (λ c κs. search needs)
+    (λ c. search needs)
+    (λ c. search needs)
     returns
     returns-2
     returns-3

@@ -10,35 +10,8 @@ use borrow.Author.Needs.{needs}
 use Rattle.list_primitives.proofs.inputs_size.Statement.{statement}
 use Rattle.list_primitives.proofs.inputs_size.Tie as tie
 
-enum-told : tie.Need-enum-told
-enum-told c = search needs
-
-enum-known-inputs : tie.Need-enum-known-inputs
-enum-known-inputs c = search needs
-
-one-size-requires : tie.Need-one-size-requires
-one-size-requires c κs = search needs
-
-enum-known-inputs-2 : tie.Need-enum-known-inputs-2
-enum-known-inputs-2 c = search needs
-
-one-size-requires-2 : tie.Need-one-size-requires-2
-one-size-requires-2 c κs = search needs
-
-one-size-requires-3 : tie.Need-one-size-requires-3
-one-size-requires-3 c κs = search needs
-
-add-result : tie.Need-add-result
-add-result c = search needs
-
-enum-known-inputs-3 : tie.Need-enum-known-inputs-3
-enum-known-inputs-3 c = search needs
-
 run-size-requires : tie.Need-run-size-requires
 run-size-requires c κs = (c .before .before .before .before .pre .0, omega (arith, ap inputsEnd (c .before .inputs3 .given .1), c .before .before .before .before .pre .1))
-
-add-result-2 : tie.Need-add-result-2
-add-result-2 c = search needs
 
 returns : tie.Need-returns
 returns c = (sym (ap length (ap (inputsBytes (inputAt (now (c .before .before .before .args .s)) (now (c .before .before .before .args .names)) (c .before .before .before .args .n)) (now (c .before .before .before .args .s))) (c .enum-told .given .1) ∙ inputs-none (now (c .before .before .before .args .s)) (now (c .before .before .before .args .names)) (c .before .before .before .args .n))), omega arith)
@@ -60,16 +33,16 @@ pub inputs-size-spec : {M : Type 1} → statement M
 inputs-size-spec =
     tie.close
     (tie.spec
-    enum-told
-    enum-known-inputs
-    one-size-requires
-    enum-known-inputs-2
-    one-size-requires-2
-    one-size-requires-3
-    add-result
-    enum-known-inputs-3
+    (λ c. search needs)
+    (λ c. search needs)
+    (λ c κs. search needs)
+    (λ c. search needs)
+    (λ c κs. search needs)
+    (λ c κs. search needs)
+    (λ c. search needs)
+    (λ c. search needs)
     run-size-requires
-    add-result-2
+    (λ c. search needs)
     returns
     returns-2
     returns-3

@@ -7,14 +7,8 @@ use borrow.Author.Needs.{needs}
 use Rattle.list_primitives.proofs.one_size.Statement.{statement}
 use Rattle.list_primitives.proofs.one_size.Tie as tie
 
-resolve-input-requires : tie.Need-resolve-input-requires
-resolve-input-requires c κs = search needs
-
-input-size-requires : tie.Need-input-size-requires
-input-size-requires c κs = search needs
-
 returns : tie.Need-returns
 returns c = (c .input-size .ensures .exact (now (c .before .before .before .args .s)) ∙ ap (λ (i : Input). length (inputBytes i)) (c .before .resolve-input .ensures), c .input-size .ensures .small)
 
 pub one-size-spec : {M : Type 1} → statement M
-one-size-spec = tie.close (tie.spec resolve-input-requires input-size-requires returns)
+one-size-spec = tie.close (tie.spec (λ c κs. search needs) (λ c κs. search needs) returns)

@@ -12,26 +12,8 @@ use borrow.Author.Needs.{needs}
 use Rattle.list_primitives.proofs.primitive_size.Statement.{statement}
 use Rattle.list_primitives.proofs.primitive_size.Tie as tie
 
-name-size-requires : tie.Need-name-size-requires
-name-size-requires c κs = search needs
-
-add-result : tie.Need-add-result
-add-result c = search needs
-
-inputs-of-requires : tie.Need-inputs-of-requires
-inputs-of-requires c κs = search needs
-
 inputs-size-requires : tie.Need-inputs-size-requires
 inputs-size-requires c κs = (c .before .before .before .pre .0, omega (arith, kind-end (c .before .before .before .args .child .kind), ap inputsEnd (c .inputs-of .ensures), c .before .before .before .pre .1))
-
-add-result-2 : tie.Need-add-result-2
-add-result-2 c = search needs
-
-fields-size-requires : tie.Need-fields-size-requires
-fields-size-requires c κs = search needs
-
-add-result-3 : tie.Need-add-result-3
-add-result-3 c = search needs
 
 returns : tie.Need-returns
 returns c =
@@ -42,11 +24,11 @@ pub primitive-size-spec : {M : Type 1} → statement M
 primitive-size-spec =
     tie.close
     (tie.spec
-    name-size-requires
-    add-result
-    inputs-of-requires
+    (λ c κs. search needs)
+    (λ c. search needs)
+    (λ c κs. search needs)
     inputs-size-requires
-    add-result-2
-    fields-size-requires
-    add-result-3
+    (λ c. search needs)
+    (λ c κs. search needs)
+    (λ c. search needs)
     returns)

@@ -11,19 +11,10 @@ use borrow.Author.Needs.{needs}
 use Rattle.list_primitives.proofs.put_inputs.Statement.{statement}
 use Rattle.list_primitives.proofs.put_inputs.Tie as tie
 
-enum-told : tie.Need-enum-told
-enum-told c = search needs
-
-enum-known-inputs : tie.Need-enum-known-inputs
-enum-known-inputs c = search needs
-
 put-one-requires : tie.Need-put-one-requires
 put-one-requires c κs =
     let e = ap length (ap (inputsBytes (inputAt (now (c .before .before .before .before .before .before .args .s)) (now (c .before .before .before .before .before .before .args .names)) (c .before .before .before .before .before .before .args .n)) (now (c .before .before .before .before .before .before .args .s))) (c .before .before .inputs .given .1) ∙ inputs-one (now (c .before .before .before .before .before .before .args .s)) (now (c .before .before .before .before .before .before .args .names)) (c .before .before .before .before .before .before .args .n) _) in
     (c .before .before .before .before .before .before .pre .0 .0, omega (arith, e, c .before .before .before .before .before .before .pre .1))
-
-enum-known-inputs-2 : tie.Need-enum-known-inputs-2
-enum-known-inputs-2 c = search needs
 
 put-one-requires-2 : tie.Need-put-one-requires-2
 put-one-requires-2 c κs =
@@ -34,9 +25,6 @@ put-one-requires-3 : tie.Need-put-one-requires-3
 put-one-requires-3 c κs =
     let e = ap length (ap (inputsBytes (inputAt (now (c .before .before .before .before .before .before .before .before .before .before .args .s)) (now (c .before .before .before .before .before .before .before .before .before .before .args .names)) (c .before .before .before .before .before .before .before .before .before .before .args .n)) (now (c .before .before .before .before .before .before .before .before .before .before .args .s))) (c .before .before .before .before .before .before .inputs2 .given .1)) ∙ length-two (now (c .before .before .before .before .before .before .before .before .before .before .args .s)) (now (c .before .before .before .before .before .before .before .before .before .before .args .names)) (c .before .before .before .before .before .before .before .before .before .before .args .n) _ _ in
     (c .before .before .before .before .before .before .before .before .before .before .pre .0 .0, omega (arith, e, c .before .before .before .put-one2 .ensures .next, c .before .before .before .before .before .before .before .before .before .before .pre .1))
-
-enum-known-inputs-3 : tie.Need-enum-known-inputs-3
-enum-known-inputs-3 c = search needs
 
 put-u16-requires : tie.Need-put-u16-requires
 put-u16-requires c κs =
@@ -51,20 +39,11 @@ put-run-requires c κs =
 returns : tie.Need-returns
 returns c = put-like (ap (inputsBytes (inputAt (now (c .before .before .before .before .args .s)) (now (c .before .before .before .before .args .names)) (c .before .before .before .before .args .n)) (now (c .before .before .before .before .args .s))) (c .enum-told .given .1) ∙ inputs-none (now (c .before .before .before .before .args .s)) (now (c .before .before .before .before .args .names)) (c .before .before .before .before .args .n)) (put-none (now (c .before .before .before .before .args .out)) (c .before .before .before .before .args .at))
 
-same-length : tie.Need-same-length
-same-length c = search needs
-
 returns-2 : tie.Need-returns-2
 returns-2 c = put-like (ap (inputsBytes (inputAt (now (c .before .before .before .before .before .before .before .before .before .args .s)) (now (c .before .before .before .before .before .before .before .before .before .args .names)) (c .before .before .before .before .before .before .before .before .before .args .n)) (now (c .before .before .before .before .before .before .before .before .before .args .s))) (c .before .before .before .before .before .inputs .given .1) ∙ inputs-one (now (c .before .before .before .before .before .before .before .before .before .args .s)) (now (c .before .before .before .before .before .before .before .before .before .args .names)) (c .before .before .before .before .before .before .before .before .before .args .n) _) (c .before .before .put-one .ensures)
 
-same-length-2 : tie.Need-same-length-2
-same-length-2 c = search needs
-
 returns-3 : tie.Need-returns-3
 returns-3 c = put-like (ap (inputsBytes (inputAt (now (c .before .before .before .before .before .before .before .before .before .before .before .before .before .args .s)) (now (c .before .before .before .before .before .before .before .before .before .before .before .before .before .args .names)) (c .before .before .before .before .before .before .before .before .before .before .before .before .before .args .n)) (now (c .before .before .before .before .before .before .before .before .before .before .before .before .before .args .s))) (c .before .before .before .before .before .before .before .before .before .inputs2 .given .1) ∙ inputs-two (now (c .before .before .before .before .before .before .before .before .before .before .before .before .before .args .s)) (now (c .before .before .before .before .before .before .before .before .before .before .before .before .before .args .names)) (c .before .before .before .before .before .before .before .before .before .before .before .before .before .args .n) _ _) (c .before .before .before .before .before .before .put-one2 .ensures then c .before .before .put-one3 .ensures)
-
-same-length-3 : tie.Need-same-length-3
-same-length-3 c = search needs
 
 returns-4 : tie.Need-returns-4
 returns-4 c = put-like (ap (inputsBytes (inputAt (now (c .before .before .before .before .before .before .before .before .before .before .before .before .before .args .s)) (now (c .before .before .before .before .before .before .before .before .before .before .before .before .before .args .names)) (c .before .before .before .before .before .before .before .before .before .before .before .before .before .args .n)) (now (c .before .before .before .before .before .before .before .before .before .before .before .before .before .args .s))) (c .before .before .before .before .before .before .before .before .before .inputs3 .given .1) ∙ inputs-run (now (c .before .before .before .before .before .before .before .before .before .before .before .before .before .args .s)) (now (c .before .before .before .before .before .before .before .before .before .before .before .before .before .args .names)) (c .before .before .before .before .before .before .before .before .before .before .before .before .before .args .n) _ _) (c .before .before .before .before .before .before .put-u16 .ensures then c .before .before .put-run .ensures)
@@ -73,19 +52,19 @@ pub put-inputs-spec : {M : Type 1} → statement M
 put-inputs-spec =
     tie.close
     (tie.spec
-    enum-told
-    enum-known-inputs
+    (λ c. search needs)
+    (λ c. search needs)
     put-one-requires
-    enum-known-inputs-2
+    (λ c. search needs)
     put-one-requires-2
     put-one-requires-3
-    enum-known-inputs-3
+    (λ c. search needs)
     put-u16-requires
     put-run-requires
     returns
-    same-length
+    (λ c. search needs)
     returns-2
-    same-length-2
+    (λ c. search needs)
     returns-3
-    same-length-3
+    (λ c. search needs)
     returns-4)

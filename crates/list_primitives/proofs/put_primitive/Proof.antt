@@ -16,23 +16,14 @@ use Rattle.list_primitives.proofs.put_primitive.Tie as tie
 put-rect-requires : tie.Need-put-rect-requires
 put-rect-requires c κs = omega (arith, primitive-long (now (c .before .before .before .before .args .s)) (now (c .before .before .before .before .args .names)) (c .before .before .before .before .args .n) (c .before .before .before .before .args .name) (c .before .before .before .before .args .child), c .before .before .before .before .pre .1)
 
-color-interpolation-place-requires : tie.Need-color-interpolation-place-requires
-color-interpolation-place-requires c κs = search needs
-
 put-u8-requires : tie.Need-put-u8-requires
 put-u8-requires c κs = omega (arith, primitive-long (now (c .before .before .before .before .before .before .before .before .before .args .s)) (now (c .before .before .before .before .before .before .before .before .before .args .names)) (c .before .before .before .before .before .before .before .before .before .args .n) (c .before .before .before .before .before .before .before .before .before .args .name) (c .before .before .before .before .before .before .before .before .before .args .child), c .before .before .before .before .before .before .before .before .before .pre .1)
 
 put-name-requires : tie.Need-put-name-requires
 put-name-requires c κs = omega (arith, primitive-long (now (c .before .before .before .before .before .before .before .before .before .before .before .before .before .args .s)) (now (c .before .before .before .before .before .before .before .before .before .before .before .before .before .args .names)) (c .before .before .before .before .before .before .before .before .before .before .before .before .before .args .n) (c .before .before .before .before .before .before .before .before .before .before .before .before .before .args .name) (c .before .before .before .before .before .before .before .before .before .before .before .before .before .args .child), c .before .before .before .before .before .before .before .before .before .before .before .before .before .pre .1)
 
-kind-place-requires : tie.Need-kind-place-requires
-kind-place-requires c κs = search needs
-
 put-u8-requires-2 : tie.Need-put-u8-requires-2
 put-u8-requires-2 c κs = omega (arith, primitive-long (now (c .before .before .before .before .before .before .before .before .before .before .before .before .before .before .before .before .before .before .args .s)) (now (c .before .before .before .before .before .before .before .before .before .before .before .before .before .before .before .before .before .before .args .names)) (c .before .before .before .before .before .before .before .before .before .before .before .before .before .before .before .before .before .before .args .n) (c .before .before .before .before .before .before .before .before .before .before .before .before .before .before .before .before .before .before .args .name) (c .before .before .before .before .before .before .before .before .before .before .before .before .before .before .before .before .before .before .args .child), c .before .before .before .before .before .before .before .before .before .before .before .before .before .before .before .before .before .before .pre .1)
-
-inputs-of-requires : tie.Need-inputs-of-requires
-inputs-of-requires c κs = search needs
 
 put-inputs-requires : tie.Need-put-inputs-requires
 put-inputs-requires c κs =
@@ -43,9 +34,6 @@ put-fields-requires : tie.Need-put-fields-requires
 put-fields-requires c κs =
     let e = ap (λ (i : Inputs). length (inputsBytes (inputAt (now (c .before .before .before .before .before .before .before .before .before .before .before .before .before .before .before .before .before .before .before .before .before .before .before .before .before .before .before .args .s)) (now (c .before .before .before .before .before .before .before .before .before .before .before .before .before .before .before .before .before .before .before .before .before .before .before .before .before .before .before .args .names)) (c .before .before .before .before .before .before .before .before .before .before .before .before .before .before .before .before .before .before .before .before .before .before .before .before .before .before .before .args .n)) (now (c .before .before .before .before .before .before .before .before .before .before .before .before .before .before .before .before .before .before .before .before .before .before .before .before .before .before .before .args .s)) i)) (c .before .before .before .before .before .inputs-of .ensures) in
     omega (arith, e, primitive-long (now (c .before .before .before .before .before .before .before .before .before .before .before .before .before .before .before .before .before .before .before .before .before .before .before .before .before .before .before .args .s)) (now (c .before .before .before .before .before .before .before .before .before .before .before .before .before .before .before .before .before .before .before .before .before .before .before .before .before .before .before .args .names)) (c .before .before .before .before .before .before .before .before .before .before .before .before .before .before .before .before .before .before .before .before .before .before .before .before .before .before .before .args .n) (c .before .before .before .before .before .before .before .before .before .before .before .before .before .before .before .before .before .before .before .before .before .before .before .before .before .before .before .args .name) (c .before .before .before .before .before .before .before .before .before .before .before .before .before .before .before .before .before .before .before .before .before .before .before .before .before .before .before .args .child), c .before .before .before .before .before .before .before .before .before .before .before .before .before .before .before .before .before .before .before .before .before .before .before .before .before .before .before .pre .1)
-
-same-length : tie.Need-same-length
-same-length c = search needs
 
 returns : tie.Need-returns
 returns c =
@@ -59,13 +47,13 @@ put-primitive-spec =
     tie.close
     (tie.spec
     put-rect-requires
-    color-interpolation-place-requires
+    (λ c κs. search needs)
     put-u8-requires
     put-name-requires
-    kind-place-requires
+    (λ c κs. search needs)
     put-u8-requires-2
-    inputs-of-requires
+    (λ c κs. search needs)
     put-inputs-requires
     put-fields-requires
-    same-length
+    (λ c. search needs)
     returns)

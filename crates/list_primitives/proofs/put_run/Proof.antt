@@ -24,15 +24,6 @@ abbrev μ-loop : tie.MeasureT-loop
 loop-holds : tie.Need-loop-holds Inv-loop μ-loop
 loop-holds c = (search needs, search needs, rw (merge-none (now (c .before .before .args .s)) (now (c .before .before .args .names)) (c .before .before .args .n) (c .before .before .args .first)) (put-none (now (c .before .before .args .out)) (c .before .before .args .at)))
 
-add-node-offset : tie.Need-add-node-offset Inv-loop μ-loop
-add-node-offset c = search needs
-
-node-offset-requires : tie.Need-node-offset-requires Inv-loop μ-loop
-node-offset-requires c κs = search needs
-
-text-of-requires : tie.Need-text-of-requires Inv-loop μ-loop
-text-of-requires c κs = search needs
-
 put-one-requires : tie.Need-put-one-requires Inv-loop μ-loop
 put-one-requires c κs =
     let a = c .before .before .before .before .before .before .before .args in
@@ -42,12 +33,6 @@ put-one-requires c κs =
     let g = room (mergeUpTo s (now (a .names)) (a .n) (a .first)) (mergeNext s (now (a .names)) (a .n) (a .first)) (merge-step s (now (a .names)) (a .n) (a .first)) (l .j) (a .count) (c .before .before .before .loop-test .taken) in
     (search needs, rw e (omega (arith, g, l .inv .1, l .inv .2 .next, c .before .before .before .before .before .before .before .pre .1)))
 
-add-j : tie.Need-add-j Inv-loop μ-loop
-add-j c = search needs
-
-loop-less : tie.Need-loop-less Inv-loop μ-loop
-loop-less c = search needs
-
 loop-again : tie.Need-loop-again Inv-loop μ-loop
 loop-again c =
     let a = c .before .before .before .before .before .before .before .before .before .before .args in
@@ -56,9 +41,6 @@ loop-again c =
     let e : maybeTextIs s (c .before .before .before .before .text-of .result) ≡ inOf (nodeAt s (a .first + l .j)) = rw (← c .before .before .before .before .before .node-offset .ensures) (c .before .before .before .before .text-of .ensures) in
     let p = rw e at (c .before .before .put-one .ensures) in
     (search needs, search needs, put-more (mergeUpTo s (now (a .names)) (a .n) (a .first)) (mergeNext s (now (a .names)) (a .n) (a .first)) (merge-step s (now (a .names)) (a .n) (a .first)) _ _ _ _ _ _ (l .j) (l .inv .2) p)
-
-same-length : tie.Need-same-length Inv-loop μ-loop
-same-length c = search needs
 
 returns : tie.Need-returns Inv-loop μ-loop
 returns c =
@@ -74,12 +56,12 @@ put-run-spec =
     Inv-loop
     μ-loop
     loop-holds
-    add-node-offset
-    node-offset-requires
-    text-of-requires
+    (λ c. search needs)
+    (λ c κs. search needs)
+    (λ c κs. search needs)
     put-one-requires
-    add-j
-    loop-less
+    (λ c. search needs)
+    (λ c. search needs)
     loop-again
-    same-length
+    (λ c. search needs)
     returns)

@@ -25,23 +25,8 @@ loop-holds c = (search needs, search needs, sym (ap length (merge-none (now (c .
 add-node-offset : tie.Need-add-node-offset Inv-loop μ-loop
 add-node-offset c = omega (arith, c .loop-test .taken, c .before .before .before .pre)
 
-node-offset-requires : tie.Need-node-offset-requires Inv-loop μ-loop
-node-offset-requires c κs = search needs
-
-text-of-requires : tie.Need-text-of-requires Inv-loop μ-loop
-text-of-requires c κs = search needs
-
-one-size-requires : tie.Need-one-size-requires Inv-loop μ-loop
-one-size-requires c κs = search needs
-
 add-sum : tie.Need-add-sum Inv-loop μ-loop
 add-sum c = omega (arith, c .before .before .before .before .loop .inv .1, c .before .before .before .before .loop .inv .0, c .before .before .before .loop-test .taken, c .one-size .ensures .1, c .before .before .before .before .before .before .pre)
-
-add-j : tie.Need-add-j Inv-loop μ-loop
-add-j c = search needs
-
-loop-less : tie.Need-loop-less Inv-loop μ-loop
-loop-less c = search needs
 
 loop-again : tie.Need-loop-again Inv-loop μ-loop
 loop-again c =
@@ -68,11 +53,11 @@ run-size-spec =
     μ-loop
     loop-holds
     add-node-offset
-    node-offset-requires
-    text-of-requires
-    one-size-requires
+    (λ c κs. search needs)
+    (λ c κs. search needs)
+    (λ c κs. search needs)
     add-sum
-    add-j
-    loop-less
+    (λ c. search needs)
+    (λ c. search needs)
     loop-again
     returns)

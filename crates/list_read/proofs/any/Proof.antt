@@ -11,12 +11,8 @@ use Rattle.bits.proofs.u8_to_u32.Reads as u8-to-u32-reads
 use Rattle.list_read.proofs.skip.Reads as skip-reads
 
 -- src/lib.rt:56:21
-u8-to-u32-requires : tie.Need-u8-to-u32-requires
-u8-to-u32-requires c κs = search needs
 
 -- src/lib.rt:56:5
-skip-requires : tie.Need-skip-requires
-skip-requires c κs = search needs
 
 -- src/lib.rt:53:1
 returns : tie.Need-returns
@@ -25,4 +21,4 @@ returns c =
     c .skip .ensures ∙ ap (λ k. afterRun k o) (c .before .u8-to-u32 .ensures .0) ∙ free-is (c .before .before .before .args .n) o
 
 pub any-spec : {M : Type 1} → statement M
-any-spec = tie.close (tie.spec u8-to-u32-requires skip-requires returns)
+any-spec = tie.close (tie.spec (λ c κs. search needs) (λ c κs. search needs) returns)

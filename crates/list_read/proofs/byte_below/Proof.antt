@@ -11,12 +11,8 @@ use Rattle.list_read.proofs.first.Reads as first-reads
 use Rattle.list_read.proofs.skip.Reads as skip-reads
 
 -- src/lib.rt:68:9
-first-requires : tie.Need-first-requires
-first-requires c κs = search needs
 
 -- src/lib.rt:70:9
-skip-requires : tie.Need-skip-requires
-skip-requires c κs = search needs
 
 -- src/lib.rt:70:9
 returns : tie.Need-returns
@@ -27,4 +23,4 @@ returns-2 : tie.Need-returns-2
 returns-2 c = below-over (c .before .before .before .args .bound) (c .before .first .result) (placeIs (now (c .before .before .before .args .s)) (c .before .before .before .args .end) (c .before .before .before .args .p)) (c .before .first .ensures) (search needs)
 
 pub byte-below-spec : {M : Type 1} → statement M
-byte-below-spec = tie.close (tie.spec first-requires skip-requires returns returns-2)
+byte-below-spec = tie.close (tie.spec (λ c κs. search needs) (λ c κs. search needs) returns returns-2)

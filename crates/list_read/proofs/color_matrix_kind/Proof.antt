@@ -14,24 +14,14 @@ use Rattle.list_read.proofs.number_list.Reads as number-list-reads
 use Rattle.list_read.proofs.numbers.Reads as numbers-reads
 
 -- src/lib.rt:102:9
-first-requires : tie.Need-first-requires
-first-requires c κs = search needs
 
 -- src/lib.rt:103:9
-byte-below-requires : tie.Need-byte-below-requires
-byte-below-requires c κs = search needs
 
 -- src/lib.rt:105:14
-number-list-requires : tie.Need-number-list-requires
-number-list-requires c κs = search needs
 
 -- src/lib.rt:106:14
-numbers-requires : tie.Need-numbers-requires
-numbers-requires c κs = search needs
 
 -- src/lib.rt:107:14
-numbers-requires-2 : tie.Need-numbers-requires-2
-numbers-requires-2 c κs = search needs
 
 -- src/lib.rt:99:1
 returns : tie.Need-returns
@@ -53,11 +43,11 @@ pub color-matrix-kind-spec : {M : Type 1} → statement M
 color-matrix-kind-spec =
     tie.close
     (tie.spec
-    first-requires
-    byte-below-requires
-    number-list-requires
-    numbers-requires
-    numbers-requires-2
+    (λ c κs. search needs)
+    (λ c κs. search needs)
+    (λ c κs. search needs)
+    (λ c κs. search needs)
+    (λ c κs. search needs)
     returns
     returns-2
     returns-3

@@ -8,20 +8,12 @@ use Rattle.list_read.proofs.component_transfer.Lts as lts
 use Rattle.list_read.proofs.transfer_function.Reads as transfer-function-reads
 
 -- src/lib.rt:158:9
-transfer-function-requires : tie.Need-transfer-function-requires
-transfer-function-requires c κs = search needs
 
 -- src/lib.rt:159:9
-transfer-function-requires-2 : tie.Need-transfer-function-requires-2
-transfer-function-requires-2 c κs = search needs
 
 -- src/lib.rt:160:9
-transfer-function-requires-3 : tie.Need-transfer-function-requires-3
-transfer-function-requires-3 c κs = search needs
 
 -- src/lib.rt:161:5
-transfer-function-requires-4 : tie.Need-transfer-function-requires-4
-transfer-function-requires-4 c κs = search needs
 
 -- src/lib.rt:155:1
 returns : tie.Need-returns
@@ -32,8 +24,8 @@ pub component-transfer-spec : {M : Type 1} → statement M
 component-transfer-spec =
     tie.close
     (tie.spec
-    transfer-function-requires
-    transfer-function-requires-2
-    transfer-function-requires-3
-    transfer-function-requires-4
+    (λ c κs. search needs)
+    (λ c κs. search needs)
+    (λ c κs. search needs)
+    (λ c κs. search needs)
     returns)

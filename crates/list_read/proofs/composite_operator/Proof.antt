@@ -11,16 +11,10 @@ use Rattle.list_read.proofs.first.Reads as first-reads
 use Rattle.list_read.proofs.numbers.Reads as numbers-reads
 
 -- src/lib.rt:129:9
-first-requires : tie.Need-first-requires
-first-requires c κs = search needs
 
 -- src/lib.rt:130:9
-byte-below-requires : tie.Need-byte-below-requires
-byte-below-requires c κs = search needs
 
 -- src/lib.rt:132:14
-numbers-requires : tie.Need-numbers-requires
-numbers-requires c κs = search needs
 
 -- src/lib.rt:126:1
 returns : tie.Need-returns
@@ -32,4 +26,4 @@ returns-2 c = let r = c .match .rest in enum-else _ _ _ _ (c .before .before .fi
 
 pub composite-operator-spec : {M : Type 1} → statement M
 composite-operator-spec =
-    tie.close (tie.spec first-requires byte-below-requires numbers-requires returns returns-2)
+    tie.close (tie.spec (λ c κs. search needs) (λ c κs. search needs) (λ c κs. search needs) returns returns-2)

@@ -11,24 +11,14 @@ use Rattle.list_read.proofs.number_list.Reads as number-list-reads
 use Rattle.list_read.proofs.numbers.Reads as numbers-reads
 
 -- src/lib.rt:167:9
-any-requires : tie.Need-any-requires
-any-requires c κs = search needs
 
 -- src/lib.rt:168:9
-number-list-requires : tie.Need-number-list-requires
-number-list-requires c κs = search needs
 
 -- src/lib.rt:169:9
-numbers-requires : tie.Need-numbers-requires
-numbers-requires c κs = search needs
 
 -- src/lib.rt:170:9
-byte-below-requires : tie.Need-byte-below-requires
-byte-below-requires c κs = search needs
 
 -- src/lib.rt:171:5
-byte-below-requires-2 : tie.Need-byte-below-requires-2
-byte-below-requires-2 c κs = search needs
 
 -- src/lib.rt:164:1
 returns : tie.Need-returns
@@ -39,9 +29,9 @@ pub convolve-matrix-spec : {M : Type 1} → statement M
 convolve-matrix-spec =
     tie.close
     (tie.spec
-    any-requires
-    number-list-requires
-    numbers-requires
-    byte-below-requires
-    byte-below-requires-2
+    (λ c κs. search needs)
+    (λ c κs. search needs)
+    (λ c κs. search needs)
+    (λ c κs. search needs)
+    (λ c κs. search needs)
     returns)

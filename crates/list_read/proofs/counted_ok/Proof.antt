@@ -15,8 +15,6 @@ use Rattle.bits.proofs.wide32.Reads as wide32-reads
 use Rattle.list_read.proofs.table_ok.Reads as table-ok-reads
 
 -- src/lib.rt:365:8
-sub-if1 : tie.Need-sub-if1
-sub-if1 c = search needs
 
 -- src/lib.rt:366:9
 returns : tie.Need-returns
@@ -24,12 +22,8 @@ returns c =
     sym (count-short (c .before .before .args .two) (now (c .before .before .args .s)) (c .before .before .args .before) (c .before .before .args .end) (search needs) (search needs))
 
 -- src/lib.rt:368:28
-wide32-requires : tie.Need-wide32-requires
-wide32-requires c κs = search needs
 
 -- src/lib.rt:368:9
-get16-requires : tie.Need-get16-requires
-get16-requires c κs = search needs
 
 -- src/lib.rt:370:9
 returns-2 : tie.Need-returns-2
@@ -39,20 +33,12 @@ returns-2 c =
     sym (count-over (c .before .before .before .before .before .args .two) s (c .before .before .before .before .before .args .before) (c .before .before .before .before .before .args .end) (search needs) (search needs) (rw e (search needs)))
 
 -- src/lib.rt:372:17
-add-pairs : tie.Need-add-pairs
-add-pairs c = search needs
 
 -- src/lib.rt:373:20
-u16-to-u32-requires : tie.Need-u16-to-u32-requires
-u16-to-u32-requires c κs = search needs
 
 -- src/lib.rt:373:16
-mul-size : tie.Need-mul-size
-mul-size c = search needs
 
 -- src/lib.rt:374:8
-sub-if3 : tie.Need-sub-if3
-sub-if3 c = search needs
 
 -- src/lib.rt:375:9
 returns-3 : tie.Need-returns-3
@@ -63,12 +49,8 @@ returns-3 c =
     sym (count-pairs (c .before .before .before .before .before .before .before .args .two) s (c .before .before .before .before .before .before .before .args .before) (c .before .before .before .before .before .before .before .args .end) (search needs) (search needs) (rw e (search needs)) (rw e d))
 
 -- src/lib.rt:377:29
-add-table-ok : tie.Need-add-table-ok
-add-table-ok c = search needs
 
 -- src/lib.rt:377:5
-table-ok-requires : tie.Need-table-ok-requires
-table-ok-requires c κs = search needs
 
 -- src/lib.rt:361:1
 returns-4 : tie.Need-returns-4
@@ -82,16 +64,16 @@ pub counted-ok-spec : {M : Type 1} → statement M
 counted-ok-spec =
     tie.close
     (tie.spec
-    sub-if1
+    (λ c. search needs)
     returns
-    wide32-requires
-    get16-requires
+    (λ c κs. search needs)
+    (λ c κs. search needs)
     returns-2
-    add-pairs
-    u16-to-u32-requires
-    mul-size
-    sub-if3
+    (λ c. search needs)
+    (λ c κs. search needs)
+    (λ c. search needs)
+    (λ c. search needs)
     returns-3
-    add-table-ok
-    table-ok-requires
+    (λ c. search needs)
+    (λ c κs. search needs)
     returns-4)

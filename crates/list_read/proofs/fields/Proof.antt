@@ -18,84 +18,44 @@ use Rattle.list_read.proofs.numbers.Reads as numbers-reads
 use Rattle.list_read.proofs.turbulence.Reads as turbulence-reads
 
 -- src/lib.rt:196:14
-byte-below-requires : tie.Need-byte-below-requires
-byte-below-requires c κs = search needs
 
 -- src/lib.rt:197:14
-color-matrix-kind-requires : tie.Need-color-matrix-kind-requires
-color-matrix-kind-requires c κs = search needs
 
 -- src/lib.rt:198:14
-component-transfer-requires : tie.Need-component-transfer-requires
-component-transfer-requires c κs = search needs
 
 -- src/lib.rt:199:14
-composite-operator-requires : tie.Need-composite-operator-requires
-composite-operator-requires c κs = search needs
 
 -- src/lib.rt:200:14
-convolve-matrix-requires : tie.Need-convolve-matrix-requires
-convolve-matrix-requires c κs = search needs
 
 -- src/lib.rt:201:14
-lighting-requires : tie.Need-lighting-requires
-lighting-requires c κs = search needs
 
 -- src/lib.rt:203:17
-numbers-requires : tie.Need-numbers-requires
-numbers-requires c κs = search needs
 
 -- src/lib.rt:204:17
-byte-below-requires-2 : tie.Need-byte-below-requires-2
-byte-below-requires-2 c κs = search needs
 
 -- src/lib.rt:205:13
-byte-below-requires-3 : tie.Need-byte-below-requires-3
-byte-below-requires-3 c κs = search needs
 
 -- src/lib.rt:208:17
-numbers-requires-2 : tie.Need-numbers-requires-2
-numbers-requires-2 c κs = search needs
 
 -- src/lib.rt:209:17
-any-requires : tie.Need-any-requires
-any-requires c κs = search needs
 
 -- src/lib.rt:210:13
-numbers-requires-3 : tie.Need-numbers-requires-3
-numbers-requires-3 c κs = search needs
 
 -- src/lib.rt:213:17
-any-requires-2 : tie.Need-any-requires-2
-any-requires-2 c κs = search needs
 
 -- src/lib.rt:214:13
-numbers-requires-4 : tie.Need-numbers-requires-4
-numbers-requires-4 c κs = search needs
 
 -- src/lib.rt:216:14
-numbers-requires-5 : tie.Need-numbers-requires-5
-numbers-requires-5 c κs = search needs
 
 -- src/lib.rt:219:17
-byte-below-requires-4 : tie.Need-byte-below-requires-4
-byte-below-requires-4 c κs = search needs
 
 -- src/lib.rt:220:13
-numbers-requires-6 : tie.Need-numbers-requires-6
-numbers-requires-6 c κs = search needs
 
 -- src/lib.rt:222:15
-numbers-requires-7 : tie.Need-numbers-requires-7
-numbers-requires-7 c κs = search needs
 
 -- src/lib.rt:223:15
-lighting-requires-2 : tie.Need-lighting-requires-2
-lighting-requires-2 c κs = search needs
 
 -- src/lib.rt:225:15
-turbulence-requires : tie.Need-turbulence-requires
-turbulence-requires c κs = search needs
 
 -- src/lib.rt:192:1
 returns : tie.Need-returns
@@ -185,26 +145,26 @@ pub fields-spec : {M : Type 1} → statement M
 fields-spec =
     tie.close
     (tie.spec
-    byte-below-requires
-    color-matrix-kind-requires
-    component-transfer-requires
-    composite-operator-requires
-    convolve-matrix-requires
-    lighting-requires
-    numbers-requires
-    byte-below-requires-2
-    byte-below-requires-3
-    numbers-requires-2
-    any-requires
-    numbers-requires-3
-    any-requires-2
-    numbers-requires-4
-    numbers-requires-5
-    byte-below-requires-4
-    numbers-requires-6
-    numbers-requires-7
-    lighting-requires-2
-    turbulence-requires
+    (λ c κs. search needs)
+    (λ c κs. search needs)
+    (λ c κs. search needs)
+    (λ c κs. search needs)
+    (λ c κs. search needs)
+    (λ c κs. search needs)
+    (λ c κs. search needs)
+    (λ c κs. search needs)
+    (λ c κs. search needs)
+    (λ c κs. search needs)
+    (λ c κs. search needs)
+    (λ c κs. search needs)
+    (λ c κs. search needs)
+    (λ c κs. search needs)
+    (λ c κs. search needs)
+    (λ c κs. search needs)
+    (λ c κs. search needs)
+    (λ c κs. search needs)
+    (λ c κs. search needs)
+    (λ c κs. search needs)
     returns
     returns-2
     returns-3

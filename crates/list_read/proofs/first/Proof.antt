@@ -9,20 +9,12 @@ use Rattle.bits.proofs.byte.Reads as byte-reads
 use Rattle.bits.proofs.wide32.Reads as wide32-reads
 
 -- src/lib.rt:38:19
-enum-known-p : tie.Need-enum-known-p
-enum-known-p c = search needs
 
 -- src/lib.rt:38:40
-wide32-requires : tie.Need-wide32-requires
-wide32-requires c κs = search needs
 
 -- src/lib.rt:38:26
-byte-requires : tie.Need-byte-requires
-byte-requires c κs = search needs
 
 -- src/lib.rt:39:22
-enum-told : tie.Need-enum-told
-enum-told c = search needs
 
 -- src/lib.rt:34:1
 returns : tie.Need-returns
@@ -34,4 +26,4 @@ returns-2 c = rw (c .enum-told .given .1) tt
 
 pub first-spec : {M : Type 1} → statement M
 first-spec =
-    tie.close (tie.spec enum-known-p wide32-requires byte-requires enum-told returns returns-2)
+    tie.close (tie.spec (λ c. search needs) (λ c κs. search needs) (λ c κs. search needs) (λ c. search needs) returns returns-2)

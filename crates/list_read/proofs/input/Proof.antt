@@ -14,24 +14,16 @@ use Rattle.list_read.proofs.skip.Reads as skip-reads
 use Rattle.list_read.proofs.text.Reads as text-reads
 
 -- src/lib.rt:255:9
-first-requires : tie.Need-first-requires
-first-requires c κs = search needs
 
 -- src/lib.rt:256:9
-byte-below-requires : tie.Need-byte-below-requires
-byte-below-requires c κs = search needs
 
 -- src/lib.rt:259:13
-skip-requires : tie.Need-skip-requires
-skip-requires c κs = search needs
 
 -- src/lib.rt:259:13
 returns : tie.Need-returns
 returns c = rw (c .before .if2 .taken) (c .skip .ensures ∙ ap (afterRun 2) (c .before .before .before .byte-below .ensures) ∙ input-place (c .before .before .before .before .first .result) (placeIs (now (c .before .before .before .before .before .before .args .s)) (c .before .before .before .before .before .before .args .end) (c .before .before .before .before .before .before .args .p)) (c .before .before .before .before .first .ensures) (c .before .before .if1 .taken))
 
 -- src/lib.rt:261:9
-text-requires : tie.Need-text-requires
-text-requires c κs = search needs
 
 -- src/lib.rt:261:9
 returns-2 : tie.Need-returns-2
@@ -45,10 +37,10 @@ pub input-spec : {M : Type 1} → statement M
 input-spec =
     tie.close
     (tie.spec
-    first-requires
-    byte-below-requires
-    skip-requires
+    (λ c κs. search needs)
+    (λ c κs. search needs)
+    (λ c κs. search needs)
     returns
-    text-requires
+    (λ c κs. search needs)
     returns-2
     returns-3)

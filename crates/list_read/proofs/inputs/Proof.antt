@@ -13,68 +13,36 @@ use Rattle.list_read.proofs.many.Reads as many-reads
 use Rattle.list_read.proofs.merge_inputs.Reads as merge-inputs-reads
 
 -- src/lib.rt:294:14
-many-requires : tie.Need-many-requires
-many-requires c κs = search needs
 
 -- src/lib.rt:295:14
-many-requires-2 : tie.Need-many-requires-2
-many-requires-2 c κs = search needs
 
 -- src/lib.rt:296:14
-many-requires-3 : tie.Need-many-requires-3
-many-requires-3 c κs = search needs
 
 -- src/lib.rt:297:14
-many-requires-4 : tie.Need-many-requires-4
-many-requires-4 c κs = search needs
 
 -- src/lib.rt:298:14
-many-requires-5 : tie.Need-many-requires-5
-many-requires-5 c κs = search needs
 
 -- src/lib.rt:299:14
-many-requires-6 : tie.Need-many-requires-6
-many-requires-6 c κs = search needs
 
 -- src/lib.rt:300:14
-many-requires-7 : tie.Need-many-requires-7
-many-requires-7 c κs = search needs
 
 -- src/lib.rt:301:14
-many-requires-8 : tie.Need-many-requires-8
-many-requires-8 c κs = search needs
 
 -- src/lib.rt:302:14
-many-requires-9 : tie.Need-many-requires-9
-many-requires-9 c κs = search needs
 
 -- src/lib.rt:303:14
-many-requires-10 : tie.Need-many-requires-10
-many-requires-10 c κs = search needs
 
 -- src/lib.rt:304:15
-merge-inputs-requires : tie.Need-merge-inputs-requires
-merge-inputs-requires c κs = search needs
 
 -- src/lib.rt:305:15
-many-requires-11 : tie.Need-many-requires-11
-many-requires-11 c κs = search needs
 
 -- src/lib.rt:306:15
-many-requires-12 : tie.Need-many-requires-12
-many-requires-12 c κs = search needs
 
 -- src/lib.rt:307:15
-many-requires-13 : tie.Need-many-requires-13
-many-requires-13 c κs = search needs
 
 -- src/lib.rt:308:15
-many-requires-14 : tie.Need-many-requires-14
-many-requires-14 c κs = search needs
 
 -- src/lib.rt:309:15
-many-requires-15 : tie.Need-many-requires-15
-many-requires-15 c κs = search needs
 
 -- src/lib.rt:290:1
 returns : tie.Need-returns
@@ -163,22 +131,22 @@ pub inputs-spec : {M : Type 1} → statement M
 inputs-spec =
     tie.close
     (tie.spec
-    many-requires
-    many-requires-2
-    many-requires-3
-    many-requires-4
-    many-requires-5
-    many-requires-6
-    many-requires-7
-    many-requires-8
-    many-requires-9
-    many-requires-10
-    merge-inputs-requires
-    many-requires-11
-    many-requires-12
-    many-requires-13
-    many-requires-14
-    many-requires-15
+    (λ c κs. search needs)
+    (λ c κs. search needs)
+    (λ c κs. search needs)
+    (λ c κs. search needs)
+    (λ c κs. search needs)
+    (λ c κs. search needs)
+    (λ c κs. search needs)
+    (λ c κs. search needs)
+    (λ c κs. search needs)
+    (λ c κs. search needs)
+    (λ c κs. search needs)
+    (λ c κs. search needs)
+    (λ c κs. search needs)
+    (λ c κs. search needs)
+    (λ c κs. search needs)
+    (λ c κs. search needs)
     returns
     returns-2
     returns-3

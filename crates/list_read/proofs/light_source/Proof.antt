@@ -15,28 +15,16 @@ use Rattle.list_read.proofs.numbers.Reads as numbers-reads
 use Rattle.list_read.proofs.optional.Reads as optional-reads
 
 -- src/lib.rt:140:9
-first-requires : tie.Need-first-requires
-first-requires c κs = search needs
 
 -- src/lib.rt:141:9
-byte-below-requires : tie.Need-byte-below-requires
-byte-below-requires c κs = search needs
 
 -- src/lib.rt:143:14
-numbers-requires : tie.Need-numbers-requires
-numbers-requires c κs = search needs
 
 -- src/lib.rt:144:14
-numbers-requires-2 : tie.Need-numbers-requires-2
-numbers-requires-2 c κs = search needs
 
 -- src/lib.rt:146:17
-numbers-requires-3 : tie.Need-numbers-requires-3
-numbers-requires-3 c κs = search needs
 
 -- src/lib.rt:147:13
-optional-requires : tie.Need-optional-requires
-optional-requires c κs = search needs
 
 -- src/lib.rt:137:1
 returns : tie.Need-returns
@@ -58,12 +46,12 @@ pub light-source-spec : {M : Type 1} → statement M
 light-source-spec =
     tie.close
     (tie.spec
-    first-requires
-    byte-below-requires
-    numbers-requires
-    numbers-requires-2
-    numbers-requires-3
-    optional-requires
+    (λ c κs. search needs)
+    (λ c κs. search needs)
+    (λ c κs. search needs)
+    (λ c κs. search needs)
+    (λ c κs. search needs)
+    (λ c κs. search needs)
     returns
     returns-2
     returns-3

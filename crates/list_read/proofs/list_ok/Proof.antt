@@ -18,8 +18,6 @@ returns : tie.Need-returns
 returns c = sym (list-large (c .before .before .args .two) (now (c .before .before .args .s)) (all-bytes (now (c .before .before .args .s)) (λ i. omega (arith, c .before .shared-slice-known .given i))) (search needs))
 
 -- src/lib.rt:387:15
-cast-end : tie.Need-cast-end
-cast-end c = search needs
 
 -- src/lib.rt:390:13
 returns-2 : tie.Need-returns-2
@@ -27,8 +25,6 @@ returns-2 c =
     rw (c .before .if2 .taken) (sym (list-two-short (now (c .before .before .before .before .args .s)) (search needs)))
 
 -- src/lib.rt:392:12
-byte-requires : tie.Need-byte-requires
-byte-requires c κs = search needs
 
 -- src/lib.rt:393:13
 returns-3 : tie.Need-returns-3
@@ -38,8 +34,6 @@ returns-3 c =
     rw (c .before .before .before .if2 .taken) (sym (list-two s h ∙ rw (ne-eqb (getD s 0 0) 255 (λ e. c .if4 .taken (c .before .byte .ensures ∙ e)))))
 
 -- src/lib.rt:395:12
-byte-requires-2 : tie.Need-byte-requires-2
-byte-requires-2 c κs = search needs
 
 -- src/lib.rt:396:13
 returns-4 : tie.Need-returns-4
@@ -49,8 +43,6 @@ returns-4 c =
     rw (c .before .before .before .before .before .if2 .taken) (sym (list-two s h ∙ rw (eq-eqb (getD s 0 0) 255 (sym (c .before .before .before .byte .ensures) ∙ c .before .before .if4 .left), ne-eqb (getD s 1 0) 255 (λ e. c .if5 .taken (c .before .byte2 .ensures ∙ e)))))
 
 -- src/lib.rt:398:9
-counted-ok-requires : tie.Need-counted-ok-requires
-counted-ok-requires c κs = search needs
 
 -- src/lib.rt:398:9
 returns-5 : tie.Need-returns-5
@@ -60,8 +52,6 @@ returns-5 c =
     rw (c .before .before .before .before .before .before .if2 .taken) (rw (c .before .before .before .before .before .before .if2 .taken) at (c .counted-ok .ensures) ∙ sym (list-two s h ∙ rw (eq-eqb (getD s 0 0) 255 (sym (c .before .before .before .before .byte .ensures) ∙ c .before .before .before .if4 .left), eq-eqb (getD s 1 0) 255 (sym (c .before .before .byte2 .ensures) ∙ c .before .if5 .left))))
 
 -- src/lib.rt:400:5
-counted-ok-requires-2 : tie.Need-counted-ok-requires-2
-counted-ok-requires-2 c κs = search needs
 
 -- src/lib.rt:381:1
 returns-6 : tie.Need-returns-6
@@ -73,13 +63,13 @@ list-ok-spec =
     tie.close
     (tie.spec
     returns
-    cast-end
+    (λ c. search needs)
     returns-2
-    byte-requires
+    (λ c κs. search needs)
     returns-3
-    byte-requires-2
+    (λ c κs. search needs)
     returns-4
-    counted-ok-requires
+    (λ c κs. search needs)
     returns-5
-    counted-ok-requires-2
+    (λ c κs. search needs)
     returns-6)

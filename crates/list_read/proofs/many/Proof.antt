@@ -23,16 +23,10 @@ loop-holds : tie.Need-loop-holds Inv-loop μ-loop
 loop-holds c = refl
 
 -- src/lib.rt:272:9
-input-requires : tie.Need-input-requires Inv-loop μ-loop
-input-requires c κs = search needs
 
 -- src/lib.rt:273:9
-sub-left : tie.Need-sub-left Inv-loop μ-loop
-sub-left c = search needs
 
 -- src/lib.rt:271:5
-loop-less : tie.Need-loop-less Inv-loop μ-loop
-loop-less c = search needs
 
 -- src/lib.rt:271:5
 loop-again : tie.Need-loop-again Inv-loop μ-loop
@@ -45,4 +39,4 @@ returns c = sym (c .before .loop .inv ∙ many-end (c .before .before .before .a
 pub many-spec : {M : Type 1} → statement M
 many-spec =
     tie.close
-    (tie.spec Inv-loop μ-loop loop-holds input-requires sub-left loop-less loop-again returns)
+    (tie.spec Inv-loop μ-loop loop-holds (λ c κs. search needs) (λ c. search needs) (λ c. search needs) loop-again returns)

@@ -13,8 +13,6 @@ use Rattle.list_read.proofs.many.Reads as many-reads
 use Rattle.list_read.proofs.skip.Reads as skip-reads
 
 -- src/lib.rt:282:9
-first-two-requires : tie.Need-first-two-requires
-first-two-requires c κs = search needs
 
 -- src/lib.rt:284:9
 returns : tie.Need-returns
@@ -22,12 +20,8 @@ unfolding layoutOf
 returns c = merge-long (c .before .first-two .result) (c .before .before .before .args .two) (placeIs (now (c .before .before .before .args .s)) (c .before .before .before .args .end) (c .before .before .before .args .p)) (c .before .first-two .ensures) (search needs)
 
 -- src/lib.rt:286:9
-skip-requires : tie.Need-skip-requires
-skip-requires c κs = search needs
 
 -- src/lib.rt:287:5
-many-requires : tie.Need-many-requires
-many-requires c κs = search needs
 
 -- src/lib.rt:279:1
 returns-2 : tie.Need-returns-2
@@ -37,4 +31,4 @@ returns-2 c =
 
 pub merge-inputs-spec : {M : Type 1} → statement M
 merge-inputs-spec =
-    tie.close (tie.spec first-two-requires returns skip-requires many-requires returns-2)
+    tie.close (tie.spec (λ c κs. search needs) returns (λ c κs. search needs) (λ c κs. search needs) returns-2)

@@ -13,8 +13,6 @@ use Rattle.list_read.proofs.numbers.Reads as numbers-reads
 use Rattle.list_read.proofs.skip.Reads as skip-reads
 
 -- src/lib.rt:78:9
-first-two-requires : tie.Need-first-two-requires
-first-two-requires c κs = search needs
 
 -- src/lib.rt:80:9
 returns : tie.Need-returns
@@ -25,12 +23,8 @@ returns-2 : tie.Need-returns-2
 returns-2 c = vec-high (c .before .before .before .before .args .low) (c .before .before .before .before .args .high) (c .before .before .first-two .result) (placeIs (now (c .before .before .before .before .args .s)) (c .before .before .before .before .args .end) (c .before .before .before .before .args .p)) (c .before .before .first-two .ensures) (search needs) (search needs)
 
 -- src/lib.rt:85:9
-skip-requires : tie.Need-skip-requires
-skip-requires c κs = search needs
 
 -- src/lib.rt:86:5
-numbers-requires : tie.Need-numbers-requires
-numbers-requires c κs = search needs
 
 -- src/lib.rt:75:1
 returns-3 : tie.Need-returns-3
@@ -39,4 +33,4 @@ returns-3 c = c .numbers .ensures ∙ ap (afterItem (floats (c .before .before .
 pub number-list-spec : {M : Type 1} → statement M
 number-list-spec =
     tie.close
-    (tie.spec first-two-requires returns returns-2 skip-requires numbers-requires returns-3)
+    (tie.spec (λ c κs. search needs) returns returns-2 (λ c κs. search needs) (λ c κs. search needs) returns-3)

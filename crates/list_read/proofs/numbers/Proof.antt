@@ -12,16 +12,10 @@ use Rattle.bits.proofs.u16_to_u32.Reads as u16-to-u32-reads
 use Rattle.list_read.proofs.skip.Reads as skip-reads
 
 -- src/lib.rt:62:25
-u16-to-u32-requires : tie.Need-u16-to-u32-requires
-u16-to-u32-requires c κs = search needs
 
 -- src/lib.rt:62:21
-mul-skip : tie.Need-mul-skip
-mul-skip c = search needs
 
 -- src/lib.rt:62:5
-skip-requires : tie.Need-skip-requires
-skip-requires c κs = search needs
 
 -- src/lib.rt:59:1
 returns : tie.Need-returns
@@ -30,4 +24,4 @@ returns c =
     c .skip .ensures ∙ ap (λ k. afterRun (4 * k) o) (c .before .u16-to-u32 .ensures .0) ∙ floats-is (c .before .before .before .args .n) o
 
 pub numbers-spec : {M : Type 1} → statement M
-numbers-spec = tie.close (tie.spec u16-to-u32-requires mul-skip skip-requires returns)
+numbers-spec = tie.close (tie.spec (λ c κs. search needs) (λ c. search needs) (λ c κs. search needs) returns)

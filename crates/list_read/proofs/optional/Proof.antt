@@ -14,20 +14,12 @@ use Rattle.list_read.proofs.first.Reads as first-reads
 use Rattle.list_read.proofs.numbers.Reads as numbers-reads
 
 -- src/lib.rt:92:9
-first-requires : tie.Need-first-requires
-first-requires c κs = search needs
 
 -- src/lib.rt:93:9
-byte-below-requires : tie.Need-byte-below-requires
-byte-below-requires c κs = search needs
 
 -- src/lib.rt:94:24
-u8-to-u16-requires : tie.Need-u8-to-u16-requires
-u8-to-u16-requires c κs = search needs
 
 -- src/lib.rt:94:5
-numbers-requires : tie.Need-numbers-requires
-numbers-requires c κs = search needs
 
 -- src/lib.rt:89:1
 returns : tie.Need-returns
@@ -38,4 +30,4 @@ returns c =
 pub optional-spec : {M : Type 1} → statement M
 optional-spec =
     tie.close
-    (tie.spec first-requires byte-below-requires u8-to-u16-requires numbers-requires returns)
+    (tie.spec (λ c κs. search needs) (λ c κs. search needs) (λ c κs. search needs) (λ c κs. search needs) returns)

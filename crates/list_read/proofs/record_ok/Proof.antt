@@ -15,40 +15,22 @@ use Rattle.list_read.proofs.skip.Reads as skip-reads
 use Rattle.list_read.proofs.text.Reads as text-reads
 
 -- src/lib.rt:319:9
-skip-requires : tie.Need-skip-requires
-skip-requires c κs = search needs
 
 -- src/lib.rt:320:9
-byte-below-requires : tie.Need-byte-below-requires
-byte-below-requires c κs = search needs
 
 -- src/lib.rt:321:9
-text-requires : tie.Need-text-requires
-text-requires c κs = search needs
 
 -- src/lib.rt:322:9
-first-requires : tie.Need-first-requires
-first-requires c κs = search needs
 
 -- src/lib.rt:323:9
-skip-requires-2 : tie.Need-skip-requires-2
-skip-requires-2 c κs = search needs
 
 -- src/lib.rt:324:9
-inputs-requires : tie.Need-inputs-requires
-inputs-requires c κs = search needs
 
 -- src/lib.rt:325:9
-fields-requires : tie.Need-fields-requires
-fields-requires c κs = search needs
 
 -- src/lib.rt:327:19
-enum-known-f : tie.Need-enum-known-f
-enum-known-f c = search needs
 
 -- src/lib.rt:328:22
-enum-told : tie.Need-enum-told
-enum-told c = search needs
 
 -- src/lib.rt:315:1
 returns : tie.Need-returns
@@ -68,14 +50,14 @@ pub record-ok-spec : {M : Type 1} → statement M
 record-ok-spec =
     tie.close
     (tie.spec
-    skip-requires
-    byte-below-requires
-    text-requires
-    first-requires
-    skip-requires-2
-    inputs-requires
-    fields-requires
-    enum-known-f
-    enum-told
+    (λ c κs. search needs)
+    (λ c κs. search needs)
+    (λ c κs. search needs)
+    (λ c κs. search needs)
+    (λ c κs. search needs)
+    (λ c κs. search needs)
+    (λ c κs. search needs)
+    (λ c. search needs)
+    (λ c. search needs)
     returns
     returns-2)

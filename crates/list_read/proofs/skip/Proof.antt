@@ -8,8 +8,6 @@ use Rattle.list_read.proofs.skip.Reads as reads
 use Rattle.list_read.proofs.skip.Lts as lts
 
 -- src/lib.rt:20:19
-enum-known-p : tie.Need-enum-known-p
-enum-known-p c = search needs
 
 -- src/lib.rt:22:17
 returns : tie.Need-returns
@@ -20,12 +18,8 @@ returns-2 : tie.Need-returns-2
 returns-2 c = rw (c .before .before .before .p .given .1) (skip-short (now (c .before .before .before .before .before .args .s)) (c .before .before .before .before .before .args .end) (c .before .before .before .p .given .0 .0) (c .before .before .before .before .before .args .n) (search needs) (search needs))
 
 -- src/lib.rt:27:23
-add-t8 : tie.Need-add-t8
-add-t8 c = search needs
 
 -- src/lib.rt:29:22
-enum-told : tie.Need-enum-told
-enum-told c = search needs
 
 -- src/lib.rt:16:1
 returns-3 : tie.Need-returns-3
@@ -37,4 +31,4 @@ returns-4 c = rw (c .enum-told .given .1) (skip-none (now (c .before .before .ar
 
 pub skip-spec : {M : Type 1} → statement M
 skip-spec =
-    tie.close (tie.spec enum-known-p returns returns-2 add-t8 enum-told returns-3 returns-4)
+    tie.close (tie.spec (λ c. search needs) returns returns-2 (λ c. search needs) (λ c. search needs) returns-3 returns-4)

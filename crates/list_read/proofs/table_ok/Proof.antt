@@ -28,12 +28,8 @@ loop-holds : tie.Need-loop-holds Inv-loop μ-loop
 loop-holds c = (search needs, search needs, refl)
 
 -- src/lib.rt:341:37
-wide32-requires : tie.Need-wide32-requires Inv-loop μ-loop
-wide32-requires c κs = search needs
 
 -- src/lib.rt:341:13
-get32-requires : tie.Need-get32-requires Inv-loop μ-loop
-get32-requires c κs = search needs
 
 -- src/lib.rt:343:13
 returns : tie.Need-returns Inv-loop μ-loop
@@ -44,20 +40,12 @@ returns c =
     sym (l .inv .2 ∙ table-offset (c .before .before .before .before .before .before .args .two) s (l .p) (l .a) (c .before .before .before .before .before .before .args .end) (l .inv .0) (l .left) (search needs) (λ e. c .if1 .taken (sym eo ∙ e)))
 
 -- src/lib.rt:345:48
-add-wide32 : tie.Need-add-wide32 Inv-loop μ-loop
-add-wide32 c = search needs
 
 -- src/lib.rt:345:35
-wide32-requires-2 : tie.Need-wide32-requires-2 Inv-loop μ-loop
-wide32-requires-2 c κs = search needs
 
 -- src/lib.rt:345:13
-get32-requires-2 : tie.Need-get32-requires-2 Inv-loop μ-loop
-get32-requires-2 c κs = search needs
 
 -- src/lib.rt:346:12
-sub-if2 : tie.Need-sub-if2 Inv-loop μ-loop
-sub-if2 c = search needs
 
 -- src/lib.rt:347:13
 returns-2 : tie.Need-returns-2 Inv-loop μ-loop
@@ -69,12 +57,8 @@ returns-2 c =
     sym (l .inv .2 ∙ table-size (c .before .before .before .before .before .before .before .before .before .args .two) s (l .p) (l .a) (c .before .before .before .before .before .before .before .before .before .args .end) (l .inv .0) (l .left) (search needs) (eo ∙ c .before .before .before .if1 .left) (rw es (c .if2 .taken)))
 
 -- src/lib.rt:349:20
-add-next : tie.Need-add-next Inv-loop μ-loop
-add-next c = search needs
 
 -- src/lib.rt:350:13
-record-ok-requires : tie.Need-record-ok-requires Inv-loop μ-loop
-record-ok-requires c κs = search needs
 
 -- src/lib.rt:351:13
 returns-3 : tie.Need-returns-3 Inv-loop μ-loop
@@ -88,16 +72,10 @@ returns-3 c =
     sym (l .inv .2 ∙ table-bad (c .before .before .before .before .before .before .before .before .before .before .before .args .two) s (l .p) (l .a) (c .before .before .before .before .before .before .before .before .before .before .before .args .end) (l .inv .0) (l .left) (search needs) (eo ∙ c .before .before .before .before .before .if1 .left) (rw es (c .before .before .if2 .left)) (rw es (sym r ∙ not-true (c .before .record-ok .result) (c .if3 .taken))))
 
 -- src/lib.rt:354:9
-add-p : tie.Need-add-p Inv-loop μ-loop
-add-p c = search needs
 
 -- src/lib.rt:355:9
-sub-left : tie.Need-sub-left Inv-loop μ-loop
-sub-left c = search needs
 
 -- src/lib.rt:340:5
-loop-less : tie.Need-loop-less Inv-loop μ-loop
-loop-less c = search needs
 
 -- src/lib.rt:340:5
 loop-again : tie.Need-loop-again Inv-loop μ-loop
@@ -123,19 +101,19 @@ table-ok-spec =
     Inv-loop
     μ-loop
     loop-holds
-    wide32-requires
-    get32-requires
+    (λ c κs. search needs)
+    (λ c κs. search needs)
     returns
-    add-wide32
-    wide32-requires-2
-    get32-requires-2
-    sub-if2
+    (λ c. search needs)
+    (λ c κs. search needs)
+    (λ c κs. search needs)
+    (λ c. search needs)
     returns-2
-    add-next
-    record-ok-requires
+    (λ c. search needs)
+    (λ c κs. search needs)
     returns-3
-    add-p
-    sub-left
-    loop-less
+    (λ c. search needs)
+    (λ c. search needs)
+    (λ c. search needs)
     loop-again
     returns-4)

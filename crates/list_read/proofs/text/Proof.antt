@@ -14,8 +14,6 @@ use Rattle.list_read.proofs.first_two.Reads as first-two-reads
 use Rattle.list_read.proofs.skip.Reads as skip-reads
 
 -- src/lib.rt:234:9
-first-two-requires : tie.Need-first-two-requires
-first-two-requires c κs = search needs
 
 -- src/lib.rt:236:9
 returns : tie.Need-returns
@@ -23,24 +21,14 @@ returns c =
     text-long (c .before .first-two .result) (placeIs (now (c .before .before .before .args .s)) (c .before .before .before .args .end) (c .before .before .before .args .p)) (c .before .first-two .ensures) (search needs)
 
 -- src/lib.rt:238:9
-skip-requires : tie.Need-skip-requires
-skip-requires c κs = search needs
 
 -- src/lib.rt:239:29
-u16-to-u32-requires : tie.Need-u16-to-u32-requires
-u16-to-u32-requires c κs = search needs
 
 -- src/lib.rt:239:9
-skip-requires-2 : tie.Need-skip-requires-2
-skip-requires-2 c κs = search needs
 
 -- src/lib.rt:241:19
-enum-known-q : tie.Need-enum-known-q
-enum-known-q c = search needs
 
 -- src/lib.rt:242:16
-is-utf8-requires : tie.Need-is-utf8-requires
-is-utf8-requires c κs = search needs
 
 -- src/lib.rt:243:17
 returns-2 : tie.Need-returns-2
@@ -50,8 +38,6 @@ returns-2 c =
     text-yes (c .before .before .before .before .before .before .before .before .before .first-two .result) (now (c .before .before .before .before .before .before .before .before .before .before .before .args .s)) (c .before .before .before .before .before .before .before .before .before .before .before .args .end) (c .before .before .before .q .given .0 .0) (search needs) (placeIs (now (c .before .before .before .before .before .before .before .before .before .before .before .args .s)) (c .before .before .before .before .before .before .before .before .before .before .before .args .end) (c .before .before .before .before .before .before .before .before .before .before .before .args .p)) (placeIs (now (c .before .before .before .before .before .before .before .before .before .before .before .args .s)) (c .before .before .before .before .before .before .before .before .before .before .before .args .end) (c .before .before .before .before .before .skip2 .result)) (c .before .before .before .before .before .before .before .before .before .first-two .ensures) q e (sym (c .before .is-utf8 .ensures) ∙ c .if2 .taken)
 
 -- src/lib.rt:247:22
-enum-told : tie.Need-enum-told
-enum-told c = search needs
 
 -- src/lib.rt:231:1
 returns-3 : tie.Need-returns-3
@@ -68,14 +54,14 @@ pub text-spec : {M : Type 1} → statement M
 text-spec =
     tie.close
     (tie.spec
-    first-two-requires
+    (λ c κs. search needs)
     returns
-    skip-requires
-    u16-to-u32-requires
-    skip-requires-2
-    enum-known-q
-    is-utf8-requires
+    (λ c κs. search needs)
+    (λ c κs. search needs)
+    (λ c κs. search needs)
+    (λ c. search needs)
+    (λ c κs. search needs)
     returns-2
-    enum-told
+    (λ c. search needs)
     returns-3
     returns-4)

@@ -12,28 +12,16 @@ use Rattle.list_read.proofs.number_list.Reads as number-list-reads
 use Rattle.list_read.proofs.numbers.Reads as numbers-reads
 
 -- src/lib.rt:115:9
-first-requires : tie.Need-first-requires
-first-requires c κs = search needs
 
 -- src/lib.rt:116:9
-byte-below-requires : tie.Need-byte-below-requires
-byte-below-requires c κs = search needs
 
 -- src/lib.rt:118:14
-number-list-requires : tie.Need-number-list-requires
-number-list-requires c κs = search needs
 
 -- src/lib.rt:119:14
-number-list-requires-2 : tie.Need-number-list-requires-2
-number-list-requires-2 c κs = search needs
 
 -- src/lib.rt:120:14
-numbers-requires : tie.Need-numbers-requires
-numbers-requires c κs = search needs
 
 -- src/lib.rt:121:14
-numbers-requires-2 : tie.Need-numbers-requires-2
-numbers-requires-2 c κs = search needs
 
 -- src/lib.rt:112:1
 returns : tie.Need-returns
@@ -59,12 +47,12 @@ pub transfer-function-spec : {M : Type 1} → statement M
 transfer-function-spec =
     tie.close
     (tie.spec
-    first-requires
-    byte-below-requires
-    number-list-requires
-    number-list-requires-2
-    numbers-requires
-    numbers-requires-2
+    (λ c κs. search needs)
+    (λ c κs. search needs)
+    (λ c κs. search needs)
+    (λ c κs. search needs)
+    (λ c κs. search needs)
+    (λ c κs. search needs)
     returns
     returns-2
     returns-3

@@ -9,36 +9,6 @@ use borrow.Author.Needs.{needs}
 use Rattle.list_records.proofs.child_of.Statement.{statement}
 use Rattle.list_records.proofs.child_of.Tie as tie
 
-step-of-requires : tie.Need-step-of-requires
-step-of-requires c κs = search needs
-
-enum-known-step : tie.Need-enum-known-step
-enum-known-step c = search needs
-
-enum-told : tie.Need-enum-told
-enum-told c = search needs
-
-no-child-requires : tie.Need-no-child-requires
-no-child-requires c κs = search needs
-
-enum-told-2 : tie.Need-enum-told-2
-enum-told-2 c = search needs
-
-no-child-requires-2 : tie.Need-no-child-requires-2
-no-child-requires-2 c κs = search needs
-
-enum-told-3 : tie.Need-enum-told-3
-enum-told-3 c = search needs
-
-no-child-requires-3 : tie.Need-no-child-requires-3
-no-child-requires-3 c κs = search needs
-
-enum-told-4 : tie.Need-enum-told-4
-enum-told-4 c = search needs
-
-no-child-requires-4 : tie.Need-no-child-requires-4
-no-child-requires-4 c κs = search needs
-
 returns : tie.Need-returns
 returns c = (sym (ap (λ (x : Step). childIn (stepIs (now (c .before .before .before .before .before .args .s)) x)) (c .before .step .given .1)) ∙ ap childIn (c .before .before .before .step-of .ensures .0), omega (arith, c .before .before .before .step-of .ensures .1, ap stepEnd (c .before .step .given .1)))
 
@@ -58,16 +28,16 @@ pub child-of-spec : {M : Type 1} → statement M
 child-of-spec =
     tie.close
     (tie.spec
-    step-of-requires
-    enum-known-step
-    enum-told
-    no-child-requires
-    enum-told-2
-    no-child-requires-2
-    enum-told-3
-    no-child-requires-3
-    enum-told-4
-    no-child-requires-4
+    (λ c κs. search needs)
+    (λ c. search needs)
+    (λ c. search needs)
+    (λ c κs. search needs)
+    (λ c. search needs)
+    (λ c κs. search needs)
+    (λ c. search needs)
+    (λ c κs. search needs)
+    (λ c. search needs)
+    (λ c κs. search needs)
     returns
     returns-2
     returns-3

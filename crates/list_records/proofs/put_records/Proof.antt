@@ -23,24 +23,6 @@ abbrev μ-loop : tie.MeasureT-loop
 loop-holds : tie.Need-loop-holds Inv-loop μ-loop
 loop-holds c = (search needs, search needs, rw (records-none (c .before .before .args .frame) (now (c .before .before .args .s)) (now (c .before .before .args .nodes)) (now (c .before .before .args .names))) (put-none (now (c .before .before .args .out)) (c .before .before .args .at)))
 
-wide16-requires : tie.Need-wide16-requires Inv-loop μ-loop
-wide16-requires c κs = search needs
-
-mul-name-of : tie.Need-mul-name-of Inv-loop μ-loop
-mul-name-of c = search needs
-
-element-copy-out-name-of : tie.Need-element-copy-out-name-of Inv-loop μ-loop
-element-copy-out-name-of c = search needs
-
-name-of-requires : tie.Need-name-of-requires Inv-loop μ-loop
-name-of-requires c κs = search needs
-
-mul-child-of : tie.Need-mul-child-of Inv-loop μ-loop
-mul-child-of c = search needs
-
-element-copy-out-child-of : tie.Need-element-copy-out-child-of Inv-loop μ-loop
-element-copy-out-child-of c = search needs
-
 child-of-requires : tie.Need-child-of-requires Inv-loop μ-loop
 child-of-requires c κs = (rw (c .before .before .before .wide16 .ensures .0) (c .before .before .before .before .before .before .before .before .pre .0 .2 .below (c .before .before .before .before .before .loop .j) (c .before .before .before .before .loop-test .taken)), c .before .before .before .before .before .before .before .before .pre .0 .1)
 
@@ -53,12 +35,6 @@ put-primitive-requires c κs =
     let h = room (recordsUpTo (c .before .before .before .before .before .before .before .before .before .before .args .frame) (now (c .before .before .before .before .before .before .before .before .before .before .args .s)) (now (c .before .before .before .before .before .before .before .before .before .before .args .nodes)) (now (c .before .before .before .before .before .before .before .before .before .before .args .names))) (recordNext (c .before .before .before .before .before .before .before .before .before .before .args .frame) (now (c .before .before .before .before .before .before .before .before .before .before .args .s)) (now (c .before .before .before .before .before .before .before .before .before .before .args .nodes)) (now (c .before .before .before .before .before .before .before .before .before .before .args .names))) (records-step (c .before .before .before .before .before .before .before .before .before .before .args .frame) (now (c .before .before .before .before .before .before .before .before .before .before .args .s)) (now (c .before .before .before .before .before .before .before .before .before .before .args .nodes)) (now (c .before .before .before .before .before .before .before .before .before .before .args .names))) (l .j) (c .before .before .before .before .before .before .before .before .before .before .args .records) (c .before .before .before .before .before .before .loop-test .taken) in
     ((table-first (c .before .before .before .before .before .before .before .before .before .before .pre .0 .0) (l .j) (omega (arith, c .before .before .before .before .before .before .loop-test .taken)), c .before .child-of .ensures .1), rw e (omega (arith, h, l .inv .1, l .inv .2 .next, c .before .before .before .before .before .before .before .before .before .before .pre .1)))
 
-add-j : tie.Need-add-j Inv-loop μ-loop
-add-j c = search needs
-
-loop-less : tie.Need-loop-less Inv-loop μ-loop
-loop-less c = search needs
-
 loop-again : tie.Need-loop-again Inv-loop μ-loop
 loop-again c =
     let l = c .before .before .before .before .before .before .before .before .before .before .loop in
@@ -66,9 +42,6 @@ loop-again c =
     let n = rw (c .before .before .before .before .before .before .before .before .wide16 .ensures .0) at (c .before .before .before .before .before .before .name-of .ensures .exact (now (c .before .before .before .before .before .before .before .before .before .before .before .before .before .args .s))) in
     let e = same-record (c .before .before .before .before .before .before .before .before .before .before .before .before .before .args .frame) (now (c .before .before .before .before .before .before .before .before .before .before .before .before .before .args .s)) (now (c .before .before .before .before .before .before .before .before .before .before .before .before .before .args .nodes)) (now (c .before .before .before .before .before .before .before .before .before .before .before .before .before .args .names)) (c .before .before .before .before .child-of .result) (c .before .before .before .before .before .before .name-of .result) (getD (now (c .before .before .before .before .before .before .before .before .before .before .before .before .before .args .nodes)) (l .j) 0) (l .j) q n in
     (search needs, search needs, put-more (recordsUpTo (c .before .before .before .before .before .before .before .before .before .before .before .before .before .args .frame) (now (c .before .before .before .before .before .before .before .before .before .before .before .before .before .args .s)) (now (c .before .before .before .before .before .before .before .before .before .before .before .before .before .args .nodes)) (now (c .before .before .before .before .before .before .before .before .before .before .before .before .before .args .names))) (recordNext (c .before .before .before .before .before .before .before .before .before .before .before .before .before .args .frame) (now (c .before .before .before .before .before .before .before .before .before .before .before .before .before .args .s)) (now (c .before .before .before .before .before .before .before .before .before .before .before .before .before .args .nodes)) (now (c .before .before .before .before .before .before .before .before .before .before .before .before .before .args .names))) (records-step (c .before .before .before .before .before .before .before .before .before .before .before .before .before .args .frame) (now (c .before .before .before .before .before .before .before .before .before .before .before .before .before .args .s)) (now (c .before .before .before .before .before .before .before .before .before .before .before .before .before .args .nodes)) (now (c .before .before .before .before .before .before .before .before .before .before .before .before .before .args .names))) _ _ _ _ _ _ (l .j) (l .inv .2) (rw e at (c .before .before .put-primitive .ensures)))
-
-same-length : tie.Need-same-length Inv-loop μ-loop
-same-length c = search needs
 
 returns : tie.Need-returns Inv-loop μ-loop
 returns c =
@@ -83,16 +56,16 @@ put-records-spec =
     Inv-loop
     μ-loop
     loop-holds
-    wide16-requires
-    mul-name-of
-    element-copy-out-name-of
-    name-of-requires
-    mul-child-of
-    element-copy-out-child-of
+    (λ c κs. search needs)
+    (λ c. search needs)
+    (λ c. search needs)
+    (λ c κs. search needs)
+    (λ c. search needs)
+    (λ c. search needs)
     child-of-requires
     put-primitive-requires
-    add-j
-    loop-less
+    (λ c. search needs)
+    (λ c. search needs)
     loop-again
-    same-length
+    (λ c. search needs)
     returns)

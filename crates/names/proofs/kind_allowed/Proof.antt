@@ -10,9 +10,6 @@ use Rattle.names.specs.Kinds.{Kind·Unreadable, Kind·Text, kindAllowed}
 use Rattle.names.proofs.kind_allowed.Statement.{statement}
 use Rattle.names.proofs.kind_allowed.Tie as tie
 
-kind-at-requires : tie.Need-kind-at-requires
-kind-at-requires c κs = search needs
-
 returns : tie.Need-returns
 unfolding kindAllowed
 returns c = simp (sym (c .before .kind-at .ensures), eq-eqb _ 0 (c .if1 .taken))
@@ -73,4 +70,4 @@ returns-5 c =
 
 pub kind-allowed-spec : {M : Type 1} → statement M
 kind-allowed-spec =
-    tie.close (tie.spec kind-at-requires returns returns-2 returns-3 returns-4 returns-5)
+    tie.close (tie.spec (λ c κs. search needs) returns returns-2 returns-3 returns-4 returns-5)

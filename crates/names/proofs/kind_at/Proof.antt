@@ -13,16 +13,10 @@ use Rattle.names.proofs.kind_at.Tie as tie
 returns : tie.Need-returns
 returns c = sym (beyond (c .before .args .depth) (c .before .args .id) (c .if1 .taken))
 
-array-read-result : tie.Need-array-read-result
-array-read-result c = search needs
-
 returns-2 : tie.Need-returns-2
 unfolding kindAt kindIn among onChild
 returns-2 c =
     rw (eq-eqb (c .before .before .args .depth) 0 (c .if2 .taken)) (at (kindIn onChild) AId·COUNT (c .before .before .args .id) (c .before .if1 .left))
-
-array-read-result-2 : tie.Need-array-read-result-2
-array-read-result-2 c = search needs
 
 returns-3 : tie.Need-returns-3
 unfolding kindAt kindIn among onGrandchild
@@ -31,4 +25,4 @@ returns-3 c =
 
 pub kind-at-spec : {M : Type 1} → statement M
 kind-at-spec =
-    tie.close (tie.spec returns array-read-result returns-2 array-read-result-2 returns-3)
+    tie.close (tie.spec returns (λ c. search needs) returns-2 (λ c. search needs) returns-3)

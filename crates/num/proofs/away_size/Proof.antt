@@ -12,18 +12,6 @@ use Rattle.num.proofs.away_size.Tie as tie
 returns : tie.Need-returns
 returns c = λ s. let st = c .before in away-tiny (st .args .t) (st .pre .1) s (st .args .x) (c .if1 .taken)
 
-add-g : tie.Need-add-g
-add-g c = search needs
-
-mul-result : tie.Need-mul-result
-mul-result c = search needs
-
-sub-unit64 : tie.Need-sub-unit64
-sub-unit64 c = search needs
-
-unit64-requires : tie.Need-unit64-requires
-unit64-requires c κs = search needs
-
 unit-le : (x : ℕ) → 126 ≤ x → 2 ^ (150 - x) ≤ 16777216
 unit-le x h = pow-mono {i = 150 - x} {j = 24} (omega arith)
 
@@ -39,12 +27,6 @@ add-result c =
     let st = c .before .before .before in
     omega (arith, c .unit64 .ensures, unit-le (st .args .x) (c .before .before .if1 .left))
 
-sub-result : tie.Need-sub-result
-sub-result c = search needs
-
-shr-result : tie.Need-shr-result
-shr-result c = search needs
-
 returns-2 : tie.Need-returns-2
 returns-2 c = λ s.
     let st = c .before .before .before in
@@ -52,9 +34,6 @@ returns-2 c = λ s.
     ap (λ (u : ℕ). (g * 2 + u) / 2 ^ (151 - st .args .x)) (c .unit64 .ensures)
     ∙ ap (λ (u : ℕ). (g * 2 + 2 ^ (150 - st .args .x)) / u) (twice (st .args .x) (c .before .if2 .taken))
     ∙ away-low (st .args .t) (st .pre .1) s (st .args .x) (c .before .before .if1 .left) (c .before .if2 .taken)
-
-left-requires : tie.Need-left-requires
-left-requires c κs = search needs
 
 returns-3 : tie.Need-returns-3
 returns-3 c = λ s. let st = c .before .before .before .before in c .left .ensures ∙ away-high (st .args .t) (st .pre .1) s (st .args .x) (c .before .before .if2 .left) (c .before .if3 .taken)
@@ -67,14 +46,14 @@ away-size-spec =
     tie.close
     (tie.spec
     returns
-    add-g
-    mul-result
-    sub-unit64
-    unit64-requires
+    (λ c. search needs)
+    (λ c. search needs)
+    (λ c. search needs)
+    (λ c κs. search needs)
     add-result
-    sub-result
-    shr-result
+    (λ c. search needs)
+    (λ c. search needs)
     returns-2
-    left-requires
+    (λ c κs. search needs)
     returns-3
     returns-4)

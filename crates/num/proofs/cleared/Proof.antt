@@ -5,14 +5,8 @@ use borrow.Author.Needs.{needs}
 use Rattle.num.proofs.cleared.Statement.{statement}
 use Rattle.num.proofs.cleared.Tie as tie
 
-shr-result : tie.Need-shr-result
-shr-result c = search needs
-
-shl-result : tie.Need-shl-result
-shl-result c = search needs
-
 returns : tie.Need-returns
 returns c = mod-eq-of-lt (lt-of-le-of-lt (div-mul-le-self (c .args .n) (2 ^ c .args .d)) (c .fits .n .fits))
 
 pub cleared-spec : {M : Type 1} → statement M
-cleared-spec = tie.close (tie.spec shr-result shl-result returns)
+cleared-spec = tie.close (tie.spec (λ c. search needs) (λ c. search needs) returns)

@@ -8,20 +8,8 @@ use Rattle.num.proofs.cut_size32.Tie as tie
 returns : tie.Need-returns
 returns c = λ s. let st = c .before in cut-tiny (st .args .t) (st .pre .1) s (st .args .x) (c .if1 .taken)
 
-add-g : tie.Need-add-g
-add-g c = search needs
-
-sub-result : tie.Need-sub-result
-sub-result c = search needs
-
-shr-result : tie.Need-shr-result
-shr-result c = search needs
-
 returns-2 : tie.Need-returns-2
 returns-2 c = λ s. let st = c .before .before in cut-low (st .args .t) (st .pre .1) s (st .args .x) (c .before .if1 .left) (c .if2 .taken)
-
-left-requires : tie.Need-left-requires
-left-requires c κs = search needs
 
 returns-3 : tie.Need-returns-3
 returns-3 c = λ s. let st = c .before .before .before .before in c .left .ensures ∙ cut-high (st .args .t) (st .pre .1) s (st .args .x) (c .before .before .if2 .left) (c .before .if3 .taken)
@@ -34,10 +22,10 @@ cut-size32-spec =
     tie.close
     (tie.spec
     returns
-    add-g
-    sub-result
-    shr-result
+    (λ c. search needs)
+    (λ c. search needs)
+    (λ c. search needs)
     returns-2
-    left-requires
+    (λ c κs. search needs)
     returns-3
     returns-4)

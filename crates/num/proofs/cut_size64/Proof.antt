@@ -9,15 +9,6 @@ use Rattle.num.proofs.cut_size64.Tie as tie
 returns : tie.Need-returns
 returns c = λ s. wide-tiny (c .before .args .t) (c .before .pre .1) s (c .before .args .x) (c .if1 .taken)
 
-with-lead-requires : tie.Need-with-lead-requires
-with-lead-requires c κs = search needs
-
-sub-result : tie.Need-sub-result
-sub-result c = search needs
-
-shr-result : tie.Need-shr-result
-shr-result c = search needs
-
 returns-2 : tie.Need-returns-2
 returns-2 c = λ s. ap (λ (g : ℕ). g / 2 ^ (1075 - c .before .before .before .args .x)) (c .with-lead .ensures) ∙ wide-low (c .before .before .before .args .t) (c .before .before .before .pre .1) s (c .before .before .before .args .x) (c .before .before .if1 .left) (c .before .if2 .taken)
 
@@ -26,4 +17,4 @@ returns-3 c = λ s. wide-top (c .before .before .args .t) (c .before .before .pr
 
 pub cut-size64-spec : {M : Type 1} → statement M
 cut-size64-spec =
-    tie.close (tie.spec returns with-lead-requires sub-result shr-result returns-2 returns-3)
+    tie.close (tie.spec returns (λ c κs. search needs) (λ c. search needs) (λ c. search needs) returns-2 returns-3)

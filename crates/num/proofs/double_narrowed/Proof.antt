@@ -5,14 +5,8 @@ use borrow.Author.Needs.{needs}
 use Rattle.num.proofs.double_narrowed.Statement.{statement}
 use Rattle.num.proofs.double_narrowed.Tie as tie
 
-narrow-requires : tie.Need-narrow-requires
-narrow-requires c κs = search needs
-
-single-requires : tie.Need-single-requires
-single-requires c κs = search needs
-
 returns : tie.Need-returns
 returns c = c .single .ensures ∙ single-double (c .before .narrow .result) (c .before .before .args .bits) (c .before .narrow .ensures)
 
 pub double-narrowed-spec : {M : Type 1} → statement M
-double-narrowed-spec = tie.close (tie.spec narrow-requires single-requires returns)
+double-narrowed-spec = tie.close (tie.spec (λ c κs. search needs) (λ c κs. search needs) returns)

@@ -16,34 +16,10 @@ use Rattle.num.proofs.f32_to_i32.Tie as tie
 value : (c : tie.After-bits-of) → ofBits binary32 (c .bits-of .result) ≡ c .before .args .x
 value c = bits-back (c .before .args .x) (c .bits-of .result) (subst T (sym (c .before .good .0 .1)) tt) (c .bits-of .ensures)
 
-bits-of-requires : tie.Need-bits-of-requires
-bits-of-requires c κs = search needs
-
-exponent32-requires : tie.Need-exponent32-requires
-exponent32-requires c κs = search needs
-
-cast-cut-size32 : tie.Need-cast-cut-size32
-cast-cut-size32 c = search needs
-
-fraction32-requires : tie.Need-fraction32-requires
-fraction32-requires c κs = search needs
-
-cast-cut-size32-2 : tie.Need-cast-cut-size32-2
-cast-cut-size32-2 c = search needs
-
-cut-size32-requires : tie.Need-cut-size32-requires
-cut-size32-requires c κs = search needs
-
-held-i32-requires : tie.Need-held-i32-requires
-held-i32-requires c κs = search needs
-
 returns : tie.Need-returns
 returns c =
     let b = c .before .before .before .before .before .bits-of .result in
     toZ-ofZ w32 (c .held-i32 .result) (record { sfits = c .held-i32 .ok }) ∙ c .held-i32 .ensures ∙ signed-finite binary32 b (c .before .before .before .exponent32 .result) (c .before .before .fraction32 .result) (c .before .cut-size32 .result) (omega (arith, c .before .before .before .exponent32 .ensures)) (c .before .before .fraction32 .ensures) (omega (arith, c .before .before .before .exponent32 .ensures, c .before .before .before .before .if1 .taken)) (c .before .cut-size32 .ensures) ∙ ap (toSigned 31) (value (c .before .before .before .before .before))
-
-held-i32-requires-2 : tie.Need-held-i32-requires-2
-held-i32-requires-2 c κs = search needs
 
 returns-2 : tie.Need-returns-2
 returns-2 c = toZ-ofZ w32 (c .held-i322 .result) (record { sfits = c .held-i322 .ok }) ∙ c .held-i322 .ensures ∙ signed-inf binary32 (c .before .before .before .bits-of .result) (omega (arith, c .before .if2 .taken)) (omega (arith, c .before .if2 .taken)) ∙ ap (toSigned 31) (value (c .before .before .before))
@@ -55,14 +31,14 @@ pub f32-to-i32-spec : {M : Type 1} → statement M
 f32-to-i32-spec =
     tie.close
     (tie.spec
-    bits-of-requires
-    exponent32-requires
-    cast-cut-size32
-    fraction32-requires
-    cast-cut-size32-2
-    cut-size32-requires
-    held-i32-requires
+    (λ c κs. search needs)
+    (λ c κs. search needs)
+    (λ c. search needs)
+    (λ c κs. search needs)
+    (λ c. search needs)
+    (λ c κs. search needs)
+    (λ c κs. search needs)
     returns
-    held-i32-requires-2
+    (λ c κs. search needs)
     returns-2
     returns-3)

@@ -10,25 +10,10 @@ use borrow.Author.Needs.{needs}
 use Rattle.num.proofs.f64_to_i32.Statement.{statement}
 use Rattle.num.proofs.f64_to_i32.Tie as tie
 
-exponent64-requires : tie.Need-exponent64-requires
-exponent64-requires c κs = search needs
-
-fraction64-requires : tie.Need-fraction64-requires
-fraction64-requires c κs = search needs
-
-cut-size64-requires : tie.Need-cut-size64-requires
-cut-size64-requires c κs = search needs
-
-held-i32-requires : tie.Need-held-i32-requires
-held-i32-requires c κs = search needs
-
 returns : tie.Need-returns
 returns c =
     let b = c .before .before .before .before .before .args .bits in
     toZ-ofZ w32 (c .held-i32 .result) (record { sfits = c .held-i32 .ok }) ∙ c .held-i32 .ensures ∙ signed-finite binary64 b (c .before .before .before .exponent64 .result) (c .before .before .fraction64 .result) (c .before .cut-size64 .result) (omega (arith, c .before .before .before .exponent64 .ensures)) (c .before .before .fraction64 .ensures) (omega (arith, c .before .before .before .exponent64 .ensures, c .before .before .before .before .if1 .taken)) (c .before .cut-size64 .ensures)
-
-held-i32-requires-2 : tie.Need-held-i32-requires-2
-held-i32-requires-2 c κs = search needs
 
 returns-2 : tie.Need-returns-2
 returns-2 c = toZ-ofZ w32 (c .held-i322 .result) (record { sfits = c .held-i322 .ok }) ∙ c .held-i322 .ensures ∙ signed-inf binary64 (c .before .before .before .args .bits) (omega (arith, c .before .if2 .taken)) (omega (arith, c .before .if2 .taken))
@@ -40,11 +25,11 @@ pub f64-to-i32-spec : {M : Type 1} → statement M
 f64-to-i32-spec =
     tie.close
     (tie.spec
-    exponent64-requires
-    fraction64-requires
-    cut-size64-requires
-    held-i32-requires
+    (λ c κs. search needs)
+    (λ c κs. search needs)
+    (λ c κs. search needs)
+    (λ c κs. search needs)
     returns
-    held-i32-requires-2
+    (λ c κs. search needs)
     returns-2
     returns-3)

@@ -7,9 +7,6 @@ use borrow.Author.Needs.{needs}
 use Rattle.num.proofs.held_i32.Statement.{statement}
 use Rattle.num.proofs.held_i32.Tie as tie
 
-cast-result : tie.Need-cast-result
-cast-result c = search needs
-
 sub-result : tie.Need-sub-result
 sub-result c = minus-fits (c .before .before .args .w) (c .if2 .taken)
 
@@ -19,9 +16,6 @@ returns c = minus-small (c .before .before .args .w) (c .if2 .taken) ∙ ap (λ 
 returns-2 : tie.Need-returns-2
 returns-2 c = minus-large (c .before .before .args .w) (c .if2 .left) ∙ ap (λ (s : Bool). heldSigned s (c .before .before .args .w)) (sym (c .before .if1 .taken))
 
-cast-result-2 : tie.Need-cast-result-2
-cast-result-2 c = search needs
-
 returns-3 : tie.Need-returns-3
 returns-3 c = plus-small (c .before .before .args .w) (c .if3 .taken) ∙ ap (λ (s : Bool). heldSigned s (c .before .before .args .w)) (sym (c .before .if1 .left))
 
@@ -30,4 +24,4 @@ returns-4 c = plus-large (c .before .before .args .w) (c .if3 .left) ∙ ap (λ 
 
 pub held-i32-spec : {M : Type 1} → statement M
 held-i32-spec =
-    tie.close (tie.spec cast-result sub-result returns returns-2 cast-result-2 returns-3 returns-4)
+    tie.close (tie.spec (λ c. search needs) sub-result returns returns-2 (λ c. search needs) returns-3 returns-4)

@@ -4,14 +4,8 @@ use borrow.Author.Needs.{needs}
 use Rattle.num.proofs.is_positive.Statement.{statement}
 use Rattle.num.proofs.is_positive.Tie as tie
 
-is-finite-requires : tie.Need-is-finite-requires
-is-finite-requires c κs = search needs
-
 returns : tie.Need-returns
 returns c = simp (sym (c .before .is-finite .ensures) ∙ c .if1 .taken)
 
-returns-2 : tie.Need-returns-2
-returns-2 c = search needs
-
 pub is-positive-spec : {M : Type 1} → statement M
-is-positive-spec = tie.close (tie.spec is-finite-requires returns returns-2)
+is-positive-spec = tie.close (tie.spec (λ c κs. search needs) returns (λ c. search needs))

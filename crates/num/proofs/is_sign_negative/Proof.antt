@@ -12,11 +12,8 @@ use Rattle.num.proofs.is_sign_negative.Tie as tie
 value : (c : tie.After-bits-of) → ofBits binary32 (c .bits-of .result) ≡ c .before .args .x
 value c = bits-back (c .before .args .x) (c .bits-of .result) (subst T (sym (c .before .good .0 .1)) tt) (c .bits-of .ensures)
 
-bits-of-requires : tie.Need-bits-of-requires
-bits-of-requires c κs = search needs
-
 returns : tie.Need-returns
 returns c = bits-negative (c .before .args .x) (c .bits-of .result) (c .bits-of .ensures) (value c)
 
 pub is-sign-negative-spec : {M : Type 1} → statement M
-is-sign-negative-spec = tie.close (tie.spec bits-of-requires returns)
+is-sign-negative-spec = tie.close (tie.spec (λ c κs. search needs) returns)

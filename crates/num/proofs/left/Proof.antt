@@ -5,11 +5,8 @@ use borrow.Author.Needs.{needs}
 use Rattle.num.proofs.left.Statement.{statement}
 use Rattle.num.proofs.left.Tie as tie
 
-shl-result : tie.Need-shl-result
-shl-result c = search needs
-
 returns : tie.Need-returns
 returns c = shl-exact 24 (c .args .d) 64 (c .pre .0) (omega arith)
 
 pub left-spec : {M : Type 1} → statement M
-left-spec = tie.close (tie.spec shl-result returns)
+left-spec = tie.close (tie.spec (λ c. search needs) returns)

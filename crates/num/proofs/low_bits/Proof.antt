@@ -6,9 +6,6 @@ use borrow.Author.Needs.{needs}
 use Rattle.num.proofs.low_bits.Statement.{statement}
 use Rattle.num.proofs.low_bits.Tie as tie
 
-unit64-requires : tie.Need-unit64-requires
-unit64-requires c κs = search needs
-
 sub-result : tie.Need-sub-result
 sub-result c = omega (arith, c .unit64 .ensures, pow-pos (c .before .args .d))
 
@@ -16,4 +13,4 @@ returns : tie.Need-returns
 returns c = rw (c .unit64 .ensures) (and-mask (c .before .args .n) (c .before .args .d))
 
 pub low-bits-spec : {M : Type 1} → statement M
-low-bits-spec = tie.close (tie.spec unit64-requires sub-result returns)
+low-bits-spec = tie.close (tie.spec (λ c κs. search needs) sub-result returns)

@@ -12,24 +12,12 @@ use Rattle.num.proofs.magnitude.Tie as tie
 returns : tie.Need-returns
 returns c = let at = c .before .args in (lit≤ tt, tiny (at .t) (c .before .pre .1) (at .x) (c .if1 .taken))
 
-with-lead-requires : tie.Need-with-lead-requires
-with-lead-requires c κs = search needs
-
-sub-nearest-shift : tie.Need-sub-nearest-shift
-sub-nearest-shift c = search needs
-
-nearest-shift-requires : tie.Need-nearest-shift-requires
-nearest-shift-requires c κs = search needs
-
 returns-2 : tie.Need-returns-2
 returns-2 c =
     let st = c .before .before .before .before in
     let at = st .args in
     let e = c .nearest-shift .ensures ∙ ap (λ (g : ℕ). closest g (2 ^ (926 - at .x))) (c .before .before .with-lead .ensures) in
     subst (Done (at .x) (at .t)) (sym e) (low-le (at .t) (st .pre .1) (at .x) (c .before .if2 .taken), low (at .t) (st .pre .1) (at .x) (omega arith) (c .before .if2 .taken))
-
-nearest-shift-requires-2 : tie.Need-nearest-shift-requires-2
-nearest-shift-requires-2 c κs = search needs
 
 add-result : tie.Need-add-result
 add-result c =
@@ -57,11 +45,11 @@ magnitude-spec =
     tie.close
     (tie.spec
     returns
-    with-lead-requires
-    sub-nearest-shift
-    nearest-shift-requires
+    (λ c κs. search needs)
+    (λ c. search needs)
+    (λ c κs. search needs)
     returns-2
-    nearest-shift-requires-2
+    (λ c κs. search needs)
     add-result
     returns-3
     returns-4)

@@ -10,21 +10,6 @@ use Rattle.num.proofs.narrow.Tie as tie
 returns : tie.Need-returns
 returns c = narrowed-nan (c .before .args .bits) (c .if1 .taken)
 
-exponent64-requires : tie.Need-exponent64-requires
-exponent64-requires c κs = search needs
-
-fraction64-requires : tie.Need-fraction64-requires
-fraction64-requires c κs = search needs
-
-magnitude-requires : tie.Need-magnitude-requires
-magnitude-requires c κs = search needs
-
-add-result : tie.Need-add-result
-add-result c = search needs
-
-cast-result : tie.Need-cast-result
-cast-result c = search needs
-
 returns-2 : tie.Need-returns-2
 returns-2 c =
     let b = c .before .before .before .before .args .bits in
@@ -39,9 +24,9 @@ narrow-spec =
     tie.close
     (tie.spec
     returns
-    exponent64-requires
-    fraction64-requires
-    magnitude-requires
-    add-result
-    cast-result
+    (λ c κs. search needs)
+    (λ c κs. search needs)
+    (λ c κs. search needs)
+    (λ c. search needs)
+    (λ c. search needs)
     returns-2)

@@ -10,15 +10,6 @@ use borrow.Author.Needs.{needs}
 use Rattle.num.proofs.nearest_shift.Statement.{statement}
 use Rattle.num.proofs.nearest_shift.Tie as tie
 
-shr-q : tie.Need-shr-q
-shr-q c = search needs
-
-unit64-requires : tie.Need-unit64-requires
-unit64-requires c κs = search needs
-
-low-bits-requires : tie.Need-low-bits-requires
-low-bits-requires c κs = search needs
-
 rest-lt : (n d : ℕ) → d < 54 → n % 2 ^ d < 9007199254740992
 rest-lt n d h = lt-of-lt-of-le (mod-lt n (pow-pos d)) (pow-mono {i = d} {j = 53} (omega arith))
 
@@ -53,9 +44,9 @@ pub nearest-shift-spec : {M : Type 1} → statement M
 nearest-shift-spec =
     tie.close
     (tie.spec
-    shr-q
-    unit64-requires
-    low-bits-requires
+    (λ c. search needs)
+    (λ c κs. search needs)
+    (λ c κs. search needs)
     mul-rest
     add-result
     add-result-2

@@ -7,21 +7,6 @@ use borrow.Author.Needs.{needs}
 use Rattle.num.proofs.number_at.Statement.{statement}
 use Rattle.num.proofs.number_at.Tie as tie
 
-cast-get32 : tie.Need-cast-get32
-cast-get32 c = search needs
-
-mul-get32 : tie.Need-mul-get32
-mul-get32 c = search needs
-
-add-get32 : tie.Need-add-get32
-add-get32 c = search needs
-
-get32-requires : tie.Need-get32-requires
-get32-requires c κs = search needs
-
-single-requires : tie.Need-single-requires
-single-requires c κs = search needs
-
 returns : tie.Need-returns
 returns c = c .single .ensures ∙ ap singleOf (c .before .get32 .ensures) ∙ sym (numbers-at (now (c .before .before .before .before .before .before .args .s)) (c .before .before .before .before .before .before .args .ns .at) (c .before .before .before .before .before .before .args .ns .count) (c .before .before .before .before .before .before .args .i) plusZero (c .before .before .before .if1 .taken))
 
@@ -31,4 +16,4 @@ returns-2 c = sym (numbers-past (now (c .before .before .before .args .s)) (c .b
 pub number-at-spec : {M : Type 1} → statement M
 number-at-spec =
     tie.close
-    (tie.spec cast-get32 mul-get32 add-get32 get32-requires single-requires returns returns-2)
+    (tie.spec (λ c. search needs) (λ c. search needs) (λ c. search needs) (λ c κs. search needs) (λ c κs. search needs) returns returns-2)

@@ -14,29 +14,8 @@ use Rattle.num.proofs.octaves.Tie as tie
 value : (c : tie.After-bits-of) → ofBits binary32 (c .bits-of .result) ≡ c .before .args .x
 value c = bits-back (c .before .args .x) (c .bits-of .result) (subst T (sym (c .before .good .0 .1)) tt) (c .bits-of .ensures)
 
-bits-of-requires : tie.Need-bits-of-requires
-bits-of-requires c κs = search needs
-
 returns : tie.Need-returns
 returns c = octaves-minus (c .before .bits-of .result) (c .if1 .taken) ∙ ap octavesOf (value (c .before))
-
-exponent32-requires : tie.Need-exponent32-requires
-exponent32-requires c κs = search needs
-
-cast-away-size : tie.Need-cast-away-size
-cast-away-size c = search needs
-
-fraction32-requires : tie.Need-fraction32-requires
-fraction32-requires c κs = search needs
-
-cast-away-size-2 : tie.Need-cast-away-size-2
-cast-away-size-2 c = search needs
-
-away-size-requires : tie.Need-away-size-requires
-away-size-requires c κs = search needs
-
-cast-result : tie.Need-cast-result
-cast-result c = search needs
 
 returns-2 : tie.Need-returns-2
 returns-2 c = octaves-plus (c .before .before .before .before .before .before .bits-of .result) (c .before .before .before .exponent32 .result) (c .before .before .fraction32 .result) (c .before .away-size .result) (c .before .away-size .result) (c .before .before .before .exponent32 .ensures) (c .before .before .fraction32 .ensures) (c .before .before .before .before .if2 .taken) (c .before .away-size .ensures) (omega (arith, c .if3 .taken)) ∙ ap octavesOf (value (c .before .before .before .before .before .before))
@@ -54,14 +33,14 @@ pub octaves-spec : {M : Type 1} → statement M
 octaves-spec =
     tie.close
     (tie.spec
-    bits-of-requires
+    (λ c κs. search needs)
     returns
-    exponent32-requires
-    cast-away-size
-    fraction32-requires
-    cast-away-size-2
-    away-size-requires
-    cast-result
+    (λ c κs. search needs)
+    (λ c. search needs)
+    (λ c κs. search needs)
+    (λ c. search needs)
+    (λ c κs. search needs)
+    (λ c. search needs)
     returns-2
     returns-3
     returns-4

@@ -8,18 +8,12 @@ use borrow.Author.Needs.{needs}
 use Rattle.num.proofs.round_bits.Statement.{statement}
 use Rattle.num.proofs.round_bits.Tie as tie
 
-exponent32-requires : tie.Need-exponent32-requires
-exponent32-requires c κs = search needs
-
 returns : tie.Need-returns
 returns c =
     let st = c .before .before in
     let b = st .args .bits in
     let w : b / 2147483648 * 2147483648 % 4294967296 ≡ b / 2147483648 * 2147483648 = omega arith in
     w ∙ round-tiny b (st .fits .bits .fits) (st .pre) (omega (arith, c .before .exponent32 .ensures, c .if1 .taken))
-
-add-result : tie.Need-add-result
-add-result c = search needs
 
 returns-2 : tie.Need-returns-2
 returns-2 c =
@@ -28,24 +22,12 @@ returns-2 c =
     let w : b / 2147483648 * 2147483648 % 4294967296 + 1065353216 ≡ b / 2147483648 * 2147483648 + 1065353216 = omega arith in
     w ∙ round-one b (st .fits .bits .fits) (st .pre) (omega (arith, c .before .before .exponent32 .ensures, c .before .if1 .left)) (omega (arith, c .before .before .exponent32 .ensures, c .if2 .taken))
 
-sub-unit32 : tie.Need-sub-unit32
-sub-unit32 c = search needs
-
-unit32-requires : tie.Need-unit32-requires
-unit32-requires c κs = search needs
-
 unit-le : (x : ℕ) → 127 ≤ x → 2 ^ (149 - x) ≤ 4194304
 unit-le x h = pow-mono {i = 149 - x} {j = 22} (omega arith)
 
 add-cleared : tie.Need-add-cleared
 add-cleared c =
     omega (arith, c .unit32 .ensures, unit-le (c .before .before .before .before .exponent32 .result) (c .before .before .if2 .left), c .before .before .before .before .exponent32 .ensures, c .before .if3 .taken)
-
-sub-cleared : tie.Need-sub-cleared
-sub-cleared c = search needs
-
-cleared-requires : tie.Need-cleared-requires
-cleared-requires c κs = search needs
 
 returns-3 : tie.Need-returns-3
 returns-3 c =
@@ -68,14 +50,14 @@ pub round-bits-spec : {M : Type 1} → statement M
 round-bits-spec =
     tie.close
     (tie.spec
-    exponent32-requires
+    (λ c κs. search needs)
     returns
-    add-result
+    (λ c. search needs)
     returns-2
-    sub-unit32
-    unit32-requires
+    (λ c. search needs)
+    (λ c κs. search needs)
     add-cleared
-    sub-cleared
-    cleared-requires
+    (λ c. search needs)
+    (λ c κs. search needs)
     returns-3
     returns-4)

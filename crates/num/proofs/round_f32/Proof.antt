@@ -12,12 +12,6 @@ use Rattle.num.proofs.round_f32.Tie as tie
 value : (c : tie.After-bits-of) → ofBits binary32 (c .bits-of .result) ≡ c .before .args .x
 value c = bits-back (c .before .args .x) (c .bits-of .result) (subst T (sym (c .before .good .0 .1)) tt) (c .bits-of .ensures)
 
-bits-of-requires : tie.Need-bits-of-requires
-bits-of-requires c κs = search needs
-
-round-bits-requires : tie.Need-round-bits-requires
-round-bits-requires c κs = search needs
-
 float-from-bits-result : tie.Need-float-from-bits-result
 float-from-bits-result c = rounded-no-nan (c .before .before .before .args .x) (c .before .before .bits-of .result) (c .round-bits .result) (value (c .before .before)) (c .round-bits .ensures) (c .before .if1 .taken)
 
@@ -30,4 +24,4 @@ returns-2 c = rounded-kept (c .before .before .args .x) (c .before .bits-of .res
 pub round-f32-spec : {M : Type 1} → statement M
 round-f32-spec =
     tie.close
-    (tie.spec bits-of-requires round-bits-requires float-from-bits-result returns returns-2)
+    (tie.spec (λ c κs. search needs) (λ c κs. search needs) float-from-bits-result returns returns-2)

@@ -7,14 +7,8 @@ use borrow.Author.Needs.{needs}
 use Rattle.num.proofs.take_number.Statement.{statement}
 use Rattle.num.proofs.take_number.Tie as tie
 
-narrow-requires : tie.Need-narrow-requires
-narrow-requires c κs = search needs
-
-take-single-requires : tie.Need-take-single-requires
-take-single-requires c κs = search needs
-
 returns : tie.Need-returns
 returns c = c .take-single .ensures ∙ ap numberOf (narrowed-back (ofBits binary64 (c .before .before .args .bits)) (c .before .narrow .result) (c .before .narrow .ensures))
 
 pub take-number-spec : {M : Type 1} → statement M
-take-number-spec = tie.close (tie.spec narrow-requires take-single-requires returns)
+take-number-spec = tie.close (tie.spec (λ c κs. search needs) (λ c κs. search needs) returns)

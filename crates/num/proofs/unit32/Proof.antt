@@ -5,11 +5,8 @@ use borrow.Author.Needs.{needs}
 use Rattle.num.proofs.unit32.Statement.{statement}
 use Rattle.num.proofs.unit32.Tie as tie
 
-shl-result : tie.Need-shl-result
-shl-result c = search needs
-
 returns : tie.Need-returns
 returns c = rw one-mul (mod-eq-of-lt (pow-lt (c .pre)))
 
 pub unit32-spec : {M : Type 1} → statement M
-unit32-spec = tie.close (tie.spec shl-result returns)
+unit32-spec = tie.close (tie.spec (λ c. search needs) returns)

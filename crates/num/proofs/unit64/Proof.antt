@@ -5,11 +5,8 @@ use borrow.Author.Needs.{needs}
 use Rattle.num.proofs.unit64.Statement.{statement}
 use Rattle.num.proofs.unit64.Tie as tie
 
-shl-result : tie.Need-shl-result
-shl-result c = search needs
-
 returns : tie.Need-returns
 returns c = rw one-mul (mod-eq-of-lt (pow-lt (c .pre)))
 
 pub unit64-spec : {M : Type 1} → statement M
-unit64-spec = tie.close (tie.spec shl-result returns)
+unit64-spec = tie.close (tie.spec (λ c. search needs) returns)

@@ -6,18 +6,6 @@ use borrow.Author.Needs.{needs}
 use Rattle.sheet_layout.proofs.bytes_ok.Statement.{statement}
 use Rattle.sheet_layout.proofs.bytes_ok.Tie as tie
 
-text-ok-requires : tie.Need-text-ok-requires
-text-ok-requires c κs = search needs
-
-numbers-ok-requires : tie.Need-numbers-ok-requires
-numbers-ok-requires c κs = search needs
-
-length-ok-requires : tie.Need-length-ok-requires
-length-ok-requires c κs = search needs
-
-tries-ok-requires : tie.Need-tries-ok-requires
-tries-ok-requires c κs = search needs
-
 returns : tie.Need-returns
 unfolding bytesOk
 returns c = rw (c .match .keys1) (simp length-bytesFrom)
@@ -52,10 +40,10 @@ pub bytes-ok-spec : {M : Type 1} → statement M
 bytes-ok-spec =
     tie.close
     (tie.spec
-    text-ok-requires
-    numbers-ok-requires
-    length-ok-requires
-    tries-ok-requires
+    (λ c κs. search needs)
+    (λ c κs. search needs)
+    (λ c κs. search needs)
+    (λ c κs. search needs)
     returns
     returns-2
     returns-3

@@ -19,25 +19,10 @@ Inv-loop s n tagged₀ i₀ tagged i = (i ≤ n) × (n ≡ countOf s) × (depths
 abbrev μ-loop : tie.MeasureT-loop
 μ-loop s n tagged₀ i₀ tagged i = n - i
 
-node-count-requires : tie.Need-node-count-requires Inv-loop μ-loop
-node-count-requires c κs = search needs
-
 loop-holds : tie.Need-loop-holds Inv-loop μ-loop
 loop-holds c =
     let e : countOf (now (c .before .before .args .s)) ≡ c .node-count .result - 0 = omega arith in
     (search needs, search needs, ap (λ (k : ℕ). depthsOk false (recordsFrom (now (c .before .before .args .s)) 0 k)) e)
-
-node-offset-requires : tie.Need-node-offset-requires Inv-loop μ-loop
-node-offset-requires c κs = search needs
-
-wide16-requires : tie.Need-wide16-requires Inv-loop μ-loop
-wide16-requires c κs = search needs
-
-byte-requires : tie.Need-byte-requires Inv-loop μ-loop
-byte-requires c κs = search needs
-
-depth-ok-requires : tie.Need-depth-ok-requires Inv-loop μ-loop
-depth-ok-requires c κs = search needs
 
 returns : tie.Need-returns Inv-loop μ-loop
 returns c =
@@ -45,21 +30,6 @@ returns c =
     let s = now (c .before .before .before .before .before .before .before .before .before .args .s) in
     let d = rw (c .before .before .byte .ensures, c .before .before .before .wide16 .ensures .0, c .before .before .before .before .node-offset .ensures) at (c .before .depth-ok .ensures) in
     sym (l .inv .2 ∙ depths-step s (l .i) _ (l .tagged) (omega arith) ∙ simp (sym d ∙ not-true _ (c .if1 .taken)))
-
-add-byte : tie.Need-add-byte Inv-loop μ-loop
-add-byte c = search needs
-
-byte-requires-2 : tie.Need-byte-requires-2 Inv-loop μ-loop
-byte-requires-2 c κs = search needs
-
-tagged-after-requires : tie.Need-tagged-after-requires Inv-loop μ-loop
-tagged-after-requires c κs = search needs
-
-add-i : tie.Need-add-i Inv-loop μ-loop
-add-i c = search needs
-
-loop-less : tie.Need-loop-less Inv-loop μ-loop
-loop-less c = search needs
 
 loop-again : tie.Need-loop-again Inv-loop μ-loop
 loop-again c =
@@ -80,17 +50,17 @@ depths-ok-spec =
     (tie.spec
     Inv-loop
     μ-loop
-    node-count-requires
+    (λ c κs. search needs)
     loop-holds
-    node-offset-requires
-    wide16-requires
-    byte-requires
-    depth-ok-requires
+    (λ c κs. search needs)
+    (λ c κs. search needs)
+    (λ c κs. search needs)
+    (λ c κs. search needs)
     returns
-    add-byte
-    byte-requires-2
-    tagged-after-requires
-    add-i
-    loop-less
+    (λ c. search needs)
+    (λ c κs. search needs)
+    (λ c κs. search needs)
+    (λ c. search needs)
+    (λ c. search needs)
     loop-again
     returns-2)

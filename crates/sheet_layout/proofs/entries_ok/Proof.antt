@@ -21,17 +21,8 @@ Inv-loop s depth node n size at₀ left₀ low₀ at left low = (at + left * 655
 abbrev μ-loop : tie.MeasureT-loop
 μ-loop s depth node n size at₀ left₀ low₀ at left low = left
 
-add-at : tie.Need-add-at Inv-loop μ-loop
-add-at c = search needs
-
 loop-holds : tie.Need-loop-holds Inv-loop μ-loop
 loop-holds c = (search needs, entries-looped _ _ _ _ _)
-
-head-at-requires : tie.Need-head-at-requires Inv-loop μ-loop
-head-at-requires c κs = search needs
-
-wide16-requires : tie.Need-wide16-requires Inv-loop μ-loop
-wide16-requires c κs = search needs
 
 returns : tie.Need-returns Inv-loop μ-loop
 returns c =
@@ -50,27 +41,6 @@ returns-2 c =
     let h : l .low ≤ le16 (now (a .s)) (l .at) = omega (arith, c .before .before .before .before .head-at .ensures .id, c .before .before .before .wide16 .ensures .0) in
     sym (l .inv .1 ∙ looped-step (now (a .s)) (a .depth) (a .node + a .size) (l .at) (l .left) (l .low) (omega arith) ∙ simp (le-leb _ _ h, sym (c .before .entry-ok .ensures) ∙ not-true _ (c .if2 .taken)))
 
-wide16-requires-2 : tie.Need-wide16-requires-2 Inv-loop μ-loop
-wide16-requires-2 c κs = search needs
-
-add-low : tie.Need-add-low Inv-loop μ-loop
-add-low c = search needs
-
-add-at-2 : tie.Need-add-at-2 Inv-loop μ-loop
-add-at-2 c = search needs
-
-wide16-requires-3 : tie.Need-wide16-requires-3 Inv-loop μ-loop
-wide16-requires-3 c κs = search needs
-
-add-at-3 : tie.Need-add-at-3 Inv-loop μ-loop
-add-at-3 c = search needs
-
-sub-left : tie.Need-sub-left Inv-loop μ-loop
-sub-left c = search needs
-
-loop-less : tie.Need-loop-less Inv-loop μ-loop
-loop-less c = search needs
-
 loop-again : tie.Need-loop-again Inv-loop μ-loop
 loop-again c =
     let l = c .before .before .before .before .before .before .before .before .loop in
@@ -79,9 +49,6 @@ loop-again c =
     let h : l .low ≤ le16 (now (a .s)) (l .at) = omega (arith, d .id, c .before .before .before .before .before .wide16 .ensures .0) in
     let k : entryOk (a .depth) (entryAt (now (a .s)) (l .at)) ≡ true = sym (c .before .before .before .entry-ok .ensures) ∙ not-false _ (c .before .before .if2 .left) in
     (search needs, cc (d .id, d .len, simp (le-leb _ _ h, k) at (looped-step (now (a .s)) (a .depth) (a .node + a .size) (l .at) (l .left) (l .low) (omega arith))))
-
-add-result : tie.Need-add-result Inv-loop μ-loop
-add-result c = search needs
 
 returns-3 : tie.Need-returns-3 Inv-loop μ-loop
 returns-3 c =
@@ -95,20 +62,20 @@ entries-ok-spec =
     (tie.spec
     Inv-loop
     μ-loop
-    add-at
+    (λ c. search needs)
     loop-holds
-    head-at-requires
-    wide16-requires
+    (λ c κs. search needs)
+    (λ c κs. search needs)
     returns
     entry-ok-requires
     returns-2
-    wide16-requires-2
-    add-low
-    add-at-2
-    wide16-requires-3
-    add-at-3
-    sub-left
-    loop-less
+    (λ c κs. search needs)
+    (λ c. search needs)
+    (λ c. search needs)
+    (λ c κs. search needs)
+    (λ c. search needs)
+    (λ c. search needs)
+    (λ c. search needs)
     loop-again
-    add-result
+    (λ c. search needs)
     returns-3)

@@ -7,18 +7,9 @@ use borrow.Author.Needs.{needs}
 use Rattle.sheet_layout.proofs.entry_ok.Statement.{statement}
 use Rattle.sheet_layout.proofs.entry_ok.Tie as tie
 
-add-byte : tie.Need-add-byte
-add-byte c = search needs
-
-byte-requires : tie.Need-byte-requires
-byte-requires c κs = search needs
-
 returns : tie.Need-returns
 unfolding entryOk entryAt
 returns c = simp (ne-eqb _ _ (λ e. c .if1 .taken (c .before .byte .ensures ∙ e)))
-
-kind-allowed-requires : tie.Need-kind-allowed-requires
-kind-allowed-requires c κs = search needs
 
 returns-2 : tie.Need-returns-2
 unfolding entryOk entryAt
@@ -27,15 +18,6 @@ returns-2 c =
     let k = rw (h .id, h .kind) at (c .before .kind-allowed .ensures) in
     simp (eq-eqb _ _ (sym (c .before .before .before .byte .ensures) ∙ c .before .before .if1 .left), sym k ∙ not-true _ (c .if2 .taken))
 
-add-from : tie.Need-add-from
-add-from c = search needs
-
-cast-from : tie.Need-cast-from
-cast-from c = search needs
-
-bytes-ok-requires : tie.Need-bytes-ok-requires
-bytes-ok-requires c κs = search needs
-
 returns-3 : tie.Need-returns-3
 unfolding entryOk entryAt
 returns-3 c =
@@ -43,9 +25,6 @@ returns-3 c =
     let k = rw (h .id, h .kind) at (c .before .before .before .kind-allowed .ensures) in
     let b = rw (h .kind, h .len) at (c .before .bytes-ok .ensures) in
     simp (eq-eqb _ _ (sym (c .before .before .before .before .before .byte .ensures) ∙ c .before .before .before .before .if1 .left), sym k ∙ not-false _ (c .before .before .if2 .left), sym b ∙ not-true _ (c .if3 .taken))
-
-word-ok-requires : tie.Need-word-ok-requires
-word-ok-requires c κs = search needs
 
 returns-4 : tie.Need-returns-4
 unfolding entryOk entryAt
@@ -59,14 +38,14 @@ pub entry-ok-spec : {M : Type 1} → statement M
 entry-ok-spec =
     tie.close
     (tie.spec
-    add-byte
-    byte-requires
+    (λ c. search needs)
+    (λ c κs. search needs)
     returns
-    kind-allowed-requires
+    (λ c κs. search needs)
     returns-2
-    add-from
-    cast-from
-    bytes-ok-requires
+    (λ c. search needs)
+    (λ c. search needs)
+    (λ c κs. search needs)
     returns-3
-    word-ok-requires
+    (λ c κs. search needs)
     returns-4)

@@ -10,23 +10,11 @@ use borrow.Author.Needs.{needs}
 use Rattle.sheet_layout.proofs.head_ok.Statement.{statement}
 use Rattle.sheet_layout.proofs.head_ok.Tie as tie
 
-byte-requires : tie.Need-byte-requires
-byte-requires c κs = search needs
-
 returns : tie.Need-returns
 unfolding headOk
 returns c =
     let h : 1 < getD (now (c .before .before .before .args .s)) (c .before .before .before .args .at) 0 = omega arith in
     simp (lt-leb _ _ h)
-
-add-byte : tie.Need-add-byte
-add-byte c = search needs
-
-byte-requires-2 : tie.Need-byte-requires-2
-byte-requires-2 c κs = search needs
-
-tag-ok-requires : tie.Need-tag-ok-requires
-tag-ok-requires c κs = search needs
 
 returns-2 : tie.Need-returns-2
 unfolding headOk
@@ -35,15 +23,6 @@ returns-2 c =
     let t = rw (c .before .before .byte2 .ensures) at (c .before .tag-ok .ensures) in
     simp (le-leb _ _ h, sym t ∙ not-true _ (c .if2 .taken))
 
-add-byte-2 : tie.Need-add-byte-2
-add-byte-2 c = search needs
-
-byte-requires-3 : tie.Need-byte-requires-3
-byte-requires-3 c κs = search needs
-
-count-ok-requires : tie.Need-count-ok-requires
-count-ok-requires c κs = search needs
-
 returns-3 : tie.Need-returns-3
 unfolding headOk
 returns-3 c =
@@ -51,12 +30,6 @@ returns-3 c =
     let t = rw (c .before .before .before .before .before .byte2 .ensures) at (c .before .before .before .before .tag-ok .ensures) in
     let k = rw (c .before .before .before .before .before .byte2 .ensures, c .before .before .byte3 .ensures) at (c .before .count-ok .ensures) in
     simp (le-leb _ _ h, sym t ∙ not-false _ (c .before .before .before .if2 .left), sym k ∙ not-true _ (c .if3 .taken))
-
-add-byte-3 : tie.Need-add-byte-3
-add-byte-3 c = search needs
-
-byte-requires-4 : tie.Need-byte-requires-4
-byte-requires-4 c κs = search needs
 
 returns-4 : tie.Need-returns-4
 unfolding headOk
@@ -70,16 +43,16 @@ pub head-ok-spec : {M : Type 1} → statement M
 head-ok-spec =
     tie.close
     (tie.spec
-    byte-requires
+    (λ c κs. search needs)
     returns
-    add-byte
-    byte-requires-2
-    tag-ok-requires
+    (λ c. search needs)
+    (λ c κs. search needs)
+    (λ c κs. search needs)
     returns-2
-    add-byte-2
-    byte-requires-3
-    count-ok-requires
+    (λ c. search needs)
+    (λ c κs. search needs)
+    (λ c κs. search needs)
     returns-3
-    add-byte-3
-    byte-requires-4
+    (λ c. search needs)
+    (λ c κs. search needs)
     returns-4)

@@ -10,9 +10,6 @@ use borrow.Author.Needs.{needs}
 use Rattle.sheet_layout.proofs.header_length_ok.Statement.{statement}
 use Rattle.sheet_layout.proofs.header_length_ok.Tie as tie
 
-byte-requires : tie.Need-byte-requires
-byte-requires c κs = search needs
-
 returns : tie.Need-returns
 unfolding headerLengthOk
 returns c =
@@ -25,12 +22,6 @@ returns-2 c =
     let u : 9 < getD (now (c .before .before .before .before .args .s)) (c .before .before .before .before .args .at) 0 = omega arith in
     simp (lt-leb _ _ u, ne-eqb _ _ (λ e. c .if2 .taken (c .before .before .byte .ensures ∙ e)))
 
-add-is-zero : tie.Need-add-is-zero
-add-is-zero c = search needs
-
-is-zero-requires : tie.Need-is-zero-requires
-is-zero-requires c κs = search needs
-
 returns-3 : tie.Need-returns-3
 unfolding headerLengthOk
 returns-3 c =
@@ -39,4 +30,4 @@ returns-3 c =
 
 pub header-length-ok-spec : {M : Type 1} → statement M
 header-length-ok-spec =
-    tie.close (tie.spec byte-requires returns returns-2 add-is-zero is-zero-requires returns-3)
+    tie.close (tie.spec (λ c κs. search needs) returns returns-2 (λ c. search needs) (λ c κs. search needs) returns-3)

@@ -12,17 +12,11 @@ use borrow.Author.Needs.{needs}
 use Rattle.sheet_layout.proofs.header_ok.Statement.{statement}
 use Rattle.sheet_layout.proofs.header_ok.Tie as tie
 
-byte-requires : tie.Need-byte-requires
-byte-requires c κs = search needs
-
 returns : tie.Need-returns
 unfolding headerOk
 returns c =
     let a : 2 < getD (now (c .before .before .before .args .s)) 0 0 = omega arith in
     simp (lt-leb _ _ a)
-
-byte-requires-2 : tie.Need-byte-requires-2
-byte-requires-2 c κs = search needs
 
 returns-2 : tie.Need-returns-2
 unfolding headerOk
@@ -30,12 +24,6 @@ returns-2 c =
     let a : getD (now (c .before .before .before .before .before .args .s)) 0 0 ≤ 2 = omega arith in
     let b : 2 < getD (now (c .before .before .before .before .before .args .s)) 1 0 = omega arith in
     simp (le-leb _ _ a, lt-leb _ _ b)
-
-byte-requires-3 : tie.Need-byte-requires-3
-byte-requires-3 c κs = search needs
-
-marked-ok-requires : tie.Need-marked-ok-requires
-marked-ok-requires c κs = search needs
 
 returns-3 : tie.Need-returns-3
 unfolding headerOk
@@ -45,9 +33,6 @@ returns-3 c =
     let m : markedOk (getD (now (c .before .before .before .before .before .before .before .before .args .s)) 2 0) (bytesFrom (now (c .before .before .before .before .before .before .before .before .args .s)) 4 16) ≡ false = rw (← c .before .before .byte3 .ensures) (sym (c .before .marked-ok .ensures) ∙ not-true _ (c .if3 .taken)) in
     simp (le-leb _ _ a, le-leb _ _ b, m)
 
-byte-requires-4 : tie.Need-byte-requires-4
-byte-requires-4 c κs = search needs
-
 returns-4 : tie.Need-returns-4
 unfolding headerOk
 returns-4 c =
@@ -55,9 +40,6 @@ returns-4 c =
     let b : getD (now (c .before .before .before .before .before .before .before .before .before .before .args .s)) 1 0 ≤ 2 = omega arith in
     let m : markedOk (getD (now (c .before .before .before .before .before .before .before .before .before .before .args .s)) 2 0) (bytesFrom (now (c .before .before .before .before .before .before .before .before .before .before .args .s)) 4 16) ≡ true = rw (← c .before .before .before .before .byte3 .ensures) (sym (c .before .before .before .marked-ok .ensures) ∙ not-false _ (c .before .before .if3 .left)) in
     simp (le-leb _ _ a, le-leb _ _ b, m, ne-eqb _ _ (λ e. c .if4 .taken (c .before .byte4 .ensures ∙ e)))
-
-header-lengths-ok-requires : tie.Need-header-lengths-ok-requires
-header-lengths-ok-requires c κs = search needs
 
 returns-5 : tie.Need-returns-5
 unfolding headerOk
@@ -71,14 +53,14 @@ pub header-ok-spec : {M : Type 1} → statement M
 header-ok-spec =
     tie.close
     (tie.spec
-    byte-requires
+    (λ c κs. search needs)
     returns
-    byte-requires-2
+    (λ c κs. search needs)
     returns-2
-    byte-requires-3
-    marked-ok-requires
+    (λ c κs. search needs)
+    (λ c κs. search needs)
     returns-3
-    byte-requires-4
+    (λ c κs. search needs)
     returns-4
-    header-lengths-ok-requires
+    (λ c κs. search needs)
     returns-5)

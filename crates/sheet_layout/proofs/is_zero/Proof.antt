@@ -20,27 +20,12 @@ Inv-loop s from n at₀ left₀ at left = (at + left ≤ from + n) × (zeros (by
 abbrev μ-loop : tie.MeasureT-loop
 μ-loop s from n at₀ left₀ at left = left
 
-loop-holds : tie.Need-loop-holds Inv-loop μ-loop
-loop-holds c = search needs
-
-byte-requires : tie.Need-byte-requires Inv-loop μ-loop
-byte-requires c κs = search needs
-
 returns : tie.Need-returns Inv-loop μ-loop
 returns c =
     let l = c .before .before .before .loop in
     let s = now (c .before .before .before .before .before .args .s) in
     let z : eqb (getD s (l .at) 0) 0 ≡ false = ne-eqb _ _ (λ e. c .if1 .taken (c .before .byte .ensures ∙ e)) in
     sym (l .inv .1 ∙ zeros-step s (l .at) (l .left) (omega arith) ∙ rw z)
-
-add-at : tie.Need-add-at Inv-loop μ-loop
-add-at c = search needs
-
-sub-left : tie.Need-sub-left Inv-loop μ-loop
-sub-left c = search needs
-
-loop-less : tie.Need-loop-less Inv-loop μ-loop
-loop-less c = search needs
 
 loop-again : tie.Need-loop-again Inv-loop μ-loop
 loop-again c =
@@ -61,11 +46,11 @@ is-zero-spec =
     (tie.spec
     Inv-loop
     μ-loop
-    loop-holds
-    byte-requires
+    (λ c. search needs)
+    (λ c κs. search needs)
     returns
-    add-at
-    sub-left
-    loop-less
+    (λ c. search needs)
+    (λ c. search needs)
+    (λ c. search needs)
     loop-again
     returns-2)

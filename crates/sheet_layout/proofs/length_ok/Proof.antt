@@ -15,12 +15,6 @@ returns : tie.Need-returns
 unfolding bytesOk
 returns c = simp (length-bytesFrom, ne-eqb _ _ (c .if1 .taken))
 
-wide32-requires : tie.Need-wide32-requires
-wide32-requires c κs = search needs
-
-byte-requires : tie.Need-byte-requires
-byte-requires c κs = search needs
-
 returns-2 : tie.Need-returns-2
 unfolding bytesOk
 returns-2 c =
@@ -29,4 +23,4 @@ returns-2 c =
     simp (length-bytesFrom, eq-eqb _ _ (c .before .before .if1 .left), byte-in (now (a .s)) (a .at) (a .len) 0 h, add-zero (a .at)) (cc)
 
 pub length-ok-spec : {M : Type 1} → statement M
-length-ok-spec = tie.close (tie.spec returns wide32-requires byte-requires returns-2)
+length-ok-spec = tie.close (tie.spec returns (λ c κs. search needs) (λ c κs. search needs) returns-2)

@@ -13,12 +13,9 @@ returns-2 : tie.Need-returns-2
 unfolding markedOk
 returns-2 c = simp (ne-eqb _ _ (c .before .if1 .left), ne-eqb _ _ (c .if2 .taken))
 
-is-zero-requires : tie.Need-is-zero-requires
-is-zero-requires c κs = search needs
-
 returns-3 : tie.Need-returns-3
 unfolding markedOk
 returns-3 c = simp (ne-eqb _ _ (c .before .before .if1 .left), eq-eqb _ _ (c .before .if2 .left)) (c .is-zero .ensures)
 
 pub marked-ok-spec : {M : Type 1} → statement M
-marked-ok-spec = tie.close (tie.spec returns returns-2 is-zero-requires returns-3)
+marked-ok-spec = tie.close (tie.spec returns returns-2 (λ c κs. search needs) returns-3)

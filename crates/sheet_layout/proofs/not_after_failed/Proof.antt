@@ -8,32 +8,11 @@ use borrow.Author.Needs.{needs}
 use Rattle.sheet_layout.proofs.not_after_failed.Statement.{statement}
 use Rattle.sheet_layout.proofs.not_after_failed.Tie as tie
 
-byte-requires : tie.Need-byte-requires
-byte-requires c κs = search needs
-
-add-byte : tie.Need-add-byte
-add-byte c = search needs
-
-byte-requires-2 : tie.Need-byte-requires-2
-byte-requires-2 c κs = search needs
-
 returns : tie.Need-returns
 returns c =
     let a = c .before .before .before .before .args in
     let h : getD (now (a .s)) (a .at) 0 < getD (now (a .s)) (a .at + 9) 0 = omega arith in
     simp (lt-leb _ _ h)
-
-add-byte-2 : tie.Need-add-byte-2
-add-byte-2 c = search needs
-
-byte-requires-3 : tie.Need-byte-requires-3
-byte-requires-3 c κs = search needs
-
-add-byte-3 : tie.Need-add-byte-3
-add-byte-3 c = search needs
-
-byte-requires-4 : tie.Need-byte-requires-4
-byte-requires-4 c κs = search needs
 
 returns-2 : tie.Need-returns-2
 returns-2 c =
@@ -45,12 +24,12 @@ pub not-after-failed-spec : {M : Type 1} → statement M
 not-after-failed-spec =
     tie.close
     (tie.spec
-    byte-requires
-    add-byte
-    byte-requires-2
+    (λ c κs. search needs)
+    (λ c. search needs)
+    (λ c κs. search needs)
     returns
-    add-byte-2
-    byte-requires-3
-    add-byte-3
-    byte-requires-4
+    (λ c. search needs)
+    (λ c κs. search needs)
+    (λ c. search needs)
+    (λ c κs. search needs)
     returns-2)

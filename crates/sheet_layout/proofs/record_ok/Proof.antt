@@ -7,47 +7,11 @@ use borrow.Author.Needs.{needs}
 use Rattle.sheet_layout.proofs.record_ok.Statement.{statement}
 use Rattle.sheet_layout.proofs.record_ok.Tie as tie
 
-node-offset-requires : tie.Need-node-offset-requires
-node-offset-requires c κs = search needs
-
-wide16-requires : tie.Need-wide16-requires
-wide16-requires c κs = search needs
-
-head-ok-requires : tie.Need-head-ok-requires
-head-ok-requires c κs = search needs
-
 returns : tie.Need-returns
 unfolding recordOk recordAt
 returns c =
     let h = rw (c .before .before .wide16 .ensures .0, c .before .before .before .node-offset .ensures) at (c .before .head-ok .ensures) in
     simp (sym h ∙ not-true _ (c .if1 .taken))
-
-wide16-requires-2 : tie.Need-wide16-requires-2
-wide16-requires-2 c κs = search needs
-
-mul-get32 : tie.Need-mul-get32
-mul-get32 c = search needs
-
-add-get32 : tie.Need-add-get32
-add-get32 c = search needs
-
-get32-requires : tie.Need-get32-requires
-get32-requires c κs = search needs
-
-wide32-requires : tie.Need-wide32-requires
-wide32-requires c κs = search needs
-
-byte-requires : tie.Need-byte-requires
-byte-requires c κs = search needs
-
-add-byte : tie.Need-add-byte
-add-byte c = search needs
-
-byte-requires-2 : tie.Need-byte-requires-2
-byte-requires-2 c κs = search needs
-
-entries-ok-requires : tie.Need-entries-ok-requires
-entries-ok-requires c κs = search needs
 
 returns-2 : tie.Need-returns-2
 unfolding recordOk recordAt
@@ -59,17 +23,17 @@ pub record-ok-spec : {M : Type 1} → statement M
 record-ok-spec =
     tie.close
     (tie.spec
-    node-offset-requires
-    wide16-requires
-    head-ok-requires
+    (λ c κs. search needs)
+    (λ c κs. search needs)
+    (λ c κs. search needs)
     returns
-    wide16-requires-2
-    mul-get32
-    add-get32
-    get32-requires
-    wide32-requires
-    byte-requires
-    add-byte
-    byte-requires-2
-    entries-ok-requires
+    (λ c κs. search needs)
+    (λ c. search needs)
+    (λ c. search needs)
+    (λ c κs. search needs)
+    (λ c κs. search needs)
+    (λ c κs. search needs)
+    (λ c. search needs)
+    (λ c κs. search needs)
+    (λ c κs. search needs)
     returns-2)

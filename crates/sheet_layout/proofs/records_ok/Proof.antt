@@ -19,28 +19,16 @@ Inv-loop s n i₀ i = (i ≤ n) × (n ≡ countOf s) × (all recordOk (recordsFr
 abbrev μ-loop : tie.MeasureT-loop
 μ-loop s n i₀ i = n - i
 
-node-count-requires : tie.Need-node-count-requires Inv-loop μ-loop
-node-count-requires c κs = search needs
-
 loop-holds : tie.Need-loop-holds Inv-loop μ-loop
 loop-holds c =
     let e : countOf (now (c .before .before .args .s)) ≡ c .node-count .result - 0 = omega arith in
     (search needs, search needs, ap (λ (k : ℕ). all recordOk (recordsFrom (now (c .before .before .args .s)) 0 k)) e)
-
-record-ok-requires : tie.Need-record-ok-requires Inv-loop μ-loop
-record-ok-requires c κs = search needs
 
 returns : tie.Need-returns Inv-loop μ-loop
 returns c =
     let l = c .before .before .before .loop in
     let s = now (c .before .before .before .before .before .before .args .s) in
     sym (l .inv .2 ∙ records-ok-step s (l .i) _ (omega arith) ∙ simp (sym (c .before .record-ok .ensures) ∙ not-true _ (c .if1 .taken)))
-
-add-i : tie.Need-add-i Inv-loop μ-loop
-add-i c = search needs
-
-loop-less : tie.Need-loop-less Inv-loop μ-loop
-loop-less c = search needs
 
 loop-again : tie.Need-loop-again Inv-loop μ-loop
 loop-again c =
@@ -59,11 +47,11 @@ records-ok-spec =
     (tie.spec
     Inv-loop
     μ-loop
-    node-count-requires
+    (λ c κs. search needs)
     loop-holds
-    record-ok-requires
+    (λ c κs. search needs)
     returns
-    add-i
-    loop-less
+    (λ c. search needs)
+    (λ c. search needs)
     loop-again
     returns-2)

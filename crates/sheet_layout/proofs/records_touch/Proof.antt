@@ -19,18 +19,6 @@ Inv-loop s n at₀ i₀ at i = (i ≤ n) × (n ≡ countOf s) × (at ≤ 600000 
 abbrev μ-loop : tie.MeasureT-loop
 μ-loop s n at₀ i₀ at i = n - i
 
-node-count-requires : tie.Need-node-count-requires Inv-loop μ-loop
-node-count-requires c κs = search needs
-
-wide16-requires : tie.Need-wide16-requires Inv-loop μ-loop
-wide16-requires c κs = search needs
-
-mul-at : tie.Need-mul-at Inv-loop μ-loop
-mul-at c = search needs
-
-add-at : tie.Need-add-at Inv-loop μ-loop
-add-at c = search needs
-
 loop-holds : tie.Need-loop-holds Inv-loop μ-loop
 loop-holds c =
     let s = now (c .before .before .before .args .s) in
@@ -38,51 +26,12 @@ loop-holds c =
     let f : 74 + 8 * countOf s ≡ 74 + 8 * c .wide16 .result = omega arith in
     (search needs, search needs, search needs, ap₂ (λ (a k : ℕ). touch a (length s) (recordsFrom s 0 k)) f e)
 
-wide16-requires-2 : tie.Need-wide16-requires-2 Inv-loop μ-loop
-wide16-requires-2 c κs = search needs
-
-mul-get32 : tie.Need-mul-get32 Inv-loop μ-loop
-mul-get32 c = search needs
-
-add-get32 : tie.Need-add-get32 Inv-loop μ-loop
-add-get32 c = search needs
-
-get32-requires : tie.Need-get32-requires Inv-loop μ-loop
-get32-requires c κs = search needs
-
-wide32-requires : tie.Need-wide32-requires Inv-loop μ-loop
-wide32-requires c κs = search needs
-
 returns : tie.Need-returns Inv-loop μ-loop
 returns c =
     let l = c .before .before .before .before .before .loop in
     let s = now (c .before .before .before .before .before .before .before .before .before .args .s) in
     let p = rw (c .before .before .before .wide162 .ensures .0) at (c .before .before .get32 .ensures) in
     sym (l .inv .3 ∙ touch-step s (l .i) (c .before .before .before .before .before .before .before .node-count .result) (l .at) (length s) (omega arith) ∙ simp (ne-eqb (pairOffset s (l .i)) (l .at) (λ q. c .if1 .taken (c .before .wide32 .ensures .0 ∙ p ∙ q))))
-
-wide16-requires-3 : tie.Need-wide16-requires-3 Inv-loop μ-loop
-wide16-requires-3 c κs = search needs
-
-mul-get32-2 : tie.Need-mul-get32-2 Inv-loop μ-loop
-mul-get32-2 c = search needs
-
-add-get32-2 : tie.Need-add-get32-2 Inv-loop μ-loop
-add-get32-2 c = search needs
-
-get32-requires-2 : tie.Need-get32-requires-2 Inv-loop μ-loop
-get32-requires-2 c κs = search needs
-
-wide32-requires-2 : tie.Need-wide32-requires-2 Inv-loop μ-loop
-wide32-requires-2 c κs = search needs
-
-add-at-2 : tie.Need-add-at-2 Inv-loop μ-loop
-add-at-2 c = search needs
-
-add-i : tie.Need-add-i Inv-loop μ-loop
-add-i c = search needs
-
-loop-less : tie.Need-loop-less Inv-loop μ-loop
-loop-less c = search needs
 
 loop-again : tie.Need-loop-again Inv-loop μ-loop
 loop-again c =
@@ -105,24 +54,24 @@ records-touch-spec =
     (tie.spec
     Inv-loop
     μ-loop
-    node-count-requires
-    wide16-requires
-    mul-at
-    add-at
+    (λ c κs. search needs)
+    (λ c κs. search needs)
+    (λ c. search needs)
+    (λ c. search needs)
     loop-holds
-    wide16-requires-2
-    mul-get32
-    add-get32
-    get32-requires
-    wide32-requires
+    (λ c κs. search needs)
+    (λ c. search needs)
+    (λ c. search needs)
+    (λ c κs. search needs)
+    (λ c κs. search needs)
     returns
-    wide16-requires-3
-    mul-get32-2
-    add-get32-2
-    get32-requires-2
-    wide32-requires-2
-    add-at-2
-    add-i
-    loop-less
+    (λ c κs. search needs)
+    (λ c. search needs)
+    (λ c. search needs)
+    (λ c κs. search needs)
+    (λ c κs. search needs)
+    (λ c. search needs)
+    (λ c. search needs)
+    (λ c. search needs)
     loop-again
     returns-2)

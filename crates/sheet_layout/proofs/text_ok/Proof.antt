@@ -13,9 +13,6 @@ returns c =
     let h : 255 < c .before .before .args .len = c .if1 .taken in
     simp (length-bytesFrom, lt-leb _ _ h)
 
-is-utf8-requires : tie.Need-is-utf8-requires
-is-utf8-requires c κs = search needs
-
 returns-2 : tie.Need-returns-2
 unfolding bytesOk
 returns-2 c =
@@ -23,4 +20,4 @@ returns-2 c =
     simp (length-bytesFrom, le-leb _ _ h) (c .is-utf8 .ensures)
 
 pub text-ok-spec : {M : Type 1} → statement M
-text-ok-spec = tie.close (tie.spec returns is-utf8-requires returns-2)
+text-ok-spec = tie.close (tie.spec returns (λ c κs. search needs) returns-2)

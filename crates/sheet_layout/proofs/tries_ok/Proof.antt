@@ -15,24 +15,12 @@ returns : tie.Need-returns
 unfolding bytesOk
 returns c = simp (length-bytesFrom, ne-eqb _ _ (c .if1 .taken))
 
-wide32-requires : tie.Need-wide32-requires
-wide32-requires c κs = search needs
-
-try-ok-requires : tie.Need-try-ok-requires
-try-ok-requires c κs = search needs
-
 returns-2 : tie.Need-returns-2
 unfolding bytesOk
 returns-2 c =
     let a = c .before .before .before .before .before .args in
     let t : tryOk (now (a .s)) (a .at) ≡ false = rw (← c .before .before .wide32 .ensures .0) (sym (c .before .try-ok .ensures) ∙ not-true _ (c .if2 .taken)) in
     simp (length-bytesFrom, eq-eqb _ _ (c .before .before .before .if1 .left), tries-in (now (a .s)) (a .at) (a .len) (c .before .before .before .if1 .left), t)
-
-add-try-ok : tie.Need-add-try-ok
-add-try-ok c = search needs
-
-try-ok-requires-2 : tie.Need-try-ok-requires-2
-try-ok-requires-2 c κs = search needs
 
 returns-3 : tie.Need-returns-3
 unfolding bytesOk
@@ -42,12 +30,6 @@ returns-3 c =
     let u : tryOk (now (a .s)) (a .at + 9) ≡ false = rw (← c .before .before .before .before .wide32 .ensures .0) (sym (c .before .try-ok2 .ensures) ∙ not-true _ (c .if3 .taken)) in
     simp (length-bytesFrom, eq-eqb _ _ (c .before .before .before .before .before .if1 .left), tries-in (now (a .s)) (a .at) (a .len) (c .before .before .before .before .before .if1 .left), t, u)
 
-add-try-ok-2 : tie.Need-add-try-ok-2
-add-try-ok-2 c = search needs
-
-try-ok-requires-3 : tie.Need-try-ok-requires-3
-try-ok-requires-3 c κs = search needs
-
 returns-4 : tie.Need-returns-4
 unfolding bytesOk
 returns-4 c =
@@ -56,9 +38,6 @@ returns-4 c =
     let u : tryOk (now (a .s)) (a .at + 9) ≡ true = rw (← c .before .before .before .before .before .before .wide32 .ensures .0) (sym (c .before .before .before .try-ok2 .ensures) ∙ not-false _ (c .before .before .if3 .left)) in
     let v : tryOk (now (a .s)) (a .at + 18) ≡ false = rw (← c .before .before .before .before .before .before .wide32 .ensures .0) (sym (c .before .try-ok3 .ensures) ∙ not-true _ (c .if4 .taken)) in
     simp (length-bytesFrom, eq-eqb _ _ (c .before .before .before .before .before .before .before .if1 .left), tries-in (now (a .s)) (a .at) (a .len) (c .before .before .before .before .before .before .before .if1 .left), t, u, v)
-
-not-after-failed-requires : tie.Need-not-after-failed-requires
-not-after-failed-requires c κs = search needs
 
 returns-5 : tie.Need-returns-5
 unfolding bytesOk
@@ -74,14 +53,14 @@ tries-ok-spec =
     tie.close
     (tie.spec
     returns
-    wide32-requires
-    try-ok-requires
+    (λ c κs. search needs)
+    (λ c κs. search needs)
     returns-2
-    add-try-ok
-    try-ok-requires-2
+    (λ c. search needs)
+    (λ c κs. search needs)
     returns-3
-    add-try-ok-2
-    try-ok-requires-3
+    (λ c. search needs)
+    (λ c κs. search needs)
     returns-4
-    not-after-failed-requires
+    (λ c κs. search needs)
     returns-5)

@@ -19,15 +19,6 @@ returns-3 : tie.Need-returns-3
 unfolding wordOk
 returns-3 c = simp (eq-eqb _ _ (c .before .before .if1 .left), eq-eqb _ _ (c .before .if2 .left)) (sym (same-run-length _ _ _ _ (c .if3 .taken)))
 
-wide32-requires : tie.Need-wide32-requires
-wide32-requires c κs = search needs
-
-slice-aggregate-run-is : tie.Need-slice-aggregate-run-is
-slice-aggregate-run-is c = search needs
-
-run-is-requires : tie.Need-run-is-requires
-run-is-requires c κs = search needs
-
 returns-4 : tie.Need-returns-4
 unfolding wordOk
 returns-4 c = simp (eq-eqb _ _ (c .before .before .before .before .before .if1 .left), eq-eqb _ _ (c .before .before .before .before .if2 .left), c .before .before .before .if3 .left) (cc)
@@ -39,7 +30,7 @@ word-ok-spec =
     returns
     returns-2
     returns-3
-    wide32-requires
-    slice-aggregate-run-is
-    run-is-requires
+    (λ c κs. search needs)
+    (λ c. search needs)
+    (λ c κs. search needs)
     returns-4)

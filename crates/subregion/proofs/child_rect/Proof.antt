@@ -6,21 +6,6 @@ use borrow.Author.Needs.{needs}
 use Rattle.subregion.proofs.child_rect.Statement.{statement}
 use Rattle.subregion.proofs.child_rect.Tie as tie
 
-value-or-requires : tie.Need-value-or-requires
-value-or-requires c κs = search needs
-
-value-or-requires-2 : tie.Need-value-or-requires-2
-value-or-requires-2 c κs = search needs
-
-value-or-requires-3 : tie.Need-value-or-requires-3
-value-or-requires-3 c κs = search needs
-
-value-or-requires-4 : tie.Need-value-or-requires-4
-value-or-requires-4 c κs = search needs
-
-from-xywh-requires : tie.Need-from-xywh-requires
-from-xywh-requires c κs = search needs
-
 returns : tie.Need-returns
 unfolding childRect
 returns c = c .from-xywh .ensures ∙ same-size (c .before .before .before .before .value-or .ensures) (c .before .before .before .value-or2 .ensures) (c .before .before .value-or3 .ensures) (c .before .value-or4 .ensures)
@@ -29,9 +14,9 @@ pub child-rect-spec : {M : Type 1} → statement M
 child-rect-spec =
     tie.close
     (tie.spec
-    value-or-requires
-    value-or-requires-2
-    value-or-requires-3
-    value-or-requires-4
-    from-xywh-requires
+    (λ c κs. search needs)
+    (λ c κs. search needs)
+    (λ c κs. search needs)
+    (λ c κs. search needs)
+    (λ c κs. search needs)
     returns)

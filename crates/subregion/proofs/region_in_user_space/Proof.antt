@@ -5,27 +5,6 @@ use borrow.Author.Needs.{needs}
 use Rattle.subregion.proofs.region_in_user_space.Statement.{statement}
 use Rattle.subregion.proofs.region_in_user_space.Tie as tie
 
-x-requires : tie.Need-x-requires
-x-requires c κs = search needs
-
-y-requires : tie.Need-y-requires
-y-requires c κs = search needs
-
-width-requires : tie.Need-width-requires
-width-requires c κs = search needs
-
-height-requires : tie.Need-height-requires
-height-requires c κs = search needs
-
-child-rect-requires : tie.Need-child-rect-requires
-child-rect-requires c κs = search needs
-
-enum-known-made : tie.Need-enum-known-made
-enum-known-made c = search needs
-
-enum-told : tie.Need-enum-told
-enum-told c = search needs
-
 returns : tie.Need-returns
 returns c =
     let a = c .before .before .before .before .before .before .before .before .before .before .args in
@@ -42,12 +21,12 @@ pub region-in-user-space-spec : {M : Type 1} → statement M
 region-in-user-space-spec =
     tie.close
     (tie.spec
-    x-requires
-    y-requires
-    width-requires
-    height-requires
-    child-rect-requires
-    enum-known-made
-    enum-told
+    (λ c κs. search needs)
+    (λ c κs. search needs)
+    (λ c κs. search needs)
+    (λ c κs. search needs)
+    (λ c κs. search needs)
+    (λ c. search needs)
+    (λ c. search needs)
     returns
     returns-2)

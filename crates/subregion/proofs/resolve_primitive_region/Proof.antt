@@ -5,18 +5,6 @@ use borrow.Author.Needs.{needs}
 use Rattle.subregion.proofs.resolve_primitive_region.Statement.{statement}
 use Rattle.subregion.proofs.resolve_primitive_region.Tie as tie
 
-enum-told : tie.Need-enum-told
-enum-told c = search needs
-
-region-in-user-space-requires : tie.Need-region-in-user-space-requires
-region-in-user-space-requires c κs = search needs
-
-enum-told-2 : tie.Need-enum-told-2
-enum-told-2 c = search needs
-
-region-in-bbox-units-requires : tie.Need-region-in-bbox-units-requires
-region-in-bbox-units-requires c κs = search needs
-
 returns : tie.Need-returns
 returns c =
     let a = c .before .before .before .before .args in
@@ -31,9 +19,9 @@ pub resolve-primitive-region-spec : {M : Type 1} → statement M
 resolve-primitive-region-spec =
     tie.close
     (tie.spec
-    enum-told
-    region-in-user-space-requires
-    enum-told-2
-    region-in-bbox-units-requires
+    (λ c. search needs)
+    (λ c κs. search needs)
+    (λ c. search needs)
+    (λ c κs. search needs)
     returns
     returns-2)

@@ -4,15 +4,6 @@ use borrow.Author.Needs.{needs}
 use Rattle.subregion.proofs.scale.Statement.{statement}
 use Rattle.subregion.proofs.scale.Tie as tie
 
-enum-told : tie.Need-enum-told
-enum-told c = search needs
-
-enum-told-2 : tie.Need-enum-told-2
-enum-told-2 c = search needs
-
-bbox-size-requires : tie.Need-bbox-size-requires
-bbox-size-requires c κs = search needs
-
 returns : tie.Need-returns
 returns c = scale-user (c .before .before .args .frame) (c .enum-told .given .1)
 
@@ -20,4 +11,4 @@ returns-2 : tie.Need-returns-2
 returns-2 c = scale-bbox (c .before .before .before .args .frame) (c .bbox-size .result) (c .before .enum-told2 .given .1) (c .bbox-size .ensures)
 
 pub scale-spec : {M : Type 1} → statement M
-scale-spec = tie.close (tie.spec enum-told enum-told-2 bbox-size-requires returns returns-2)
+scale-spec = tie.close (tie.spec (λ c. search needs) (λ c. search needs) (λ c κs. search needs) returns returns-2)

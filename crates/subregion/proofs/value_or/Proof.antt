@@ -5,15 +5,6 @@ use borrow.Author.Needs.{needs}
 use Rattle.subregion.proofs.value_or.Statement.{statement}
 use Rattle.subregion.proofs.value_or.Tie as tie
 
-try-convert-length-requires : tie.Need-try-convert-length-requires
-try-convert-length-requires c κs = search needs
-
-enum-known-found : tie.Need-enum-known-found
-enum-known-found c = search needs
-
-enum-told : tie.Need-enum-told
-enum-told c = search needs
-
 returns : tie.Need-returns
 returns c =
     let a = c .before .before .before .before .before .args in
@@ -26,4 +17,4 @@ returns-2 c =
 
 pub value-or-spec : {M : Type 1} → statement M
 value-or-spec =
-    tie.close (tie.spec try-convert-length-requires enum-known-found enum-told returns returns-2)
+    tie.close (tie.spec (λ c κs. search needs) (λ c. search needs) (λ c. search needs) returns returns-2)

@@ -12,27 +12,6 @@ use borrow.Author.Needs.{needs}
 use Rattle.tree.proofs.color_matrix_kind_size.Statement.{statement}
 use Rattle.tree.proofs.color_matrix_kind_size.Tie as tie
 
-enum-known-v : tie.Need-enum-known-v
-enum-known-v c = search needs
-
-numbers-size-requires : tie.Need-numbers-size-requires
-numbers-size-requires c κs = search needs
-
-add-result : tie.Need-add-result
-add-result c = search needs
-
-enum-told : tie.Need-enum-told
-enum-told c = search needs
-
-enum-told-2 : tie.Need-enum-told-2
-enum-told-2 c = search needs
-
-enum-told-3 : tie.Need-enum-told-3
-enum-told-3 c = search needs
-
-enum-told-4 : tie.Need-enum-told-4
-enum-told-4 c = search needs
-
 returns : tie.Need-returns
 returns c =
     let e0 = length-colorMatrixKind (colorMatrixKindIs (now (c .before .before .before .before .before .args .s)) (c .before .before .before .before .before .args .v)) ∙ ap (λ (v : ColorMatrixKind). colorMatrixKindSize (colorMatrixKindIs (now (c .before .before .before .before .before .args .s)) v)) (c .before .before .v .given .1) in
@@ -64,13 +43,13 @@ pub color-matrix-kind-size-spec : {M : Type 1} → statement M
 color-matrix-kind-size-spec =
     tie.close
     (tie.spec
-    enum-known-v
-    numbers-size-requires
-    add-result
-    enum-told
-    enum-told-2
-    enum-told-3
-    enum-told-4
+    (λ c. search needs)
+    (λ c κs. search needs)
+    (λ c. search needs)
+    (λ c. search needs)
+    (λ c. search needs)
+    (λ c. search needs)
+    (λ c. search needs)
     returns
     returns-2
     returns-3

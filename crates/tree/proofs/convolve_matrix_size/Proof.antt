@@ -9,12 +9,6 @@ use borrow.Author.Needs.{needs}
 use Rattle.tree.proofs.convolve_matrix_size.Statement.{statement}
 use Rattle.tree.proofs.convolve_matrix_size.Tie as tie
 
-numbers-size-requires : tie.Need-numbers-size-requires
-numbers-size-requires c κs = search needs
-
-add-result : tie.Need-add-result
-add-result c = search needs
-
 returns : tie.Need-returns
 returns c =
     let e0 = length-convolveMatrix (convolveMatrixIs (now (c .before .before .before .before .args .s)) (c .before .before .before .before .args .v)) in
@@ -22,4 +16,4 @@ returns c =
     (omega arith, omega arith)
 
 pub convolve-matrix-size-spec : {M : Type 1} → statement M
-convolve-matrix-size-spec = tie.close (tie.spec numbers-size-requires add-result returns)
+convolve-matrix-size-spec = tie.close (tie.spec (λ c κs. search needs) (λ c. search needs) returns)

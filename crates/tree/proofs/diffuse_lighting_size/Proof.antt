@@ -5,12 +5,6 @@ use borrow.Author.Needs.{needs}
 use Rattle.tree.proofs.diffuse_lighting_size.Statement.{statement}
 use Rattle.tree.proofs.diffuse_lighting_size.Tie as tie
 
-light-source-size-requires : tie.Need-light-source-size-requires
-light-source-size-requires c κs = search needs
-
-add-result : tie.Need-add-result
-add-result c = search needs
-
 returns : tie.Need-returns
 returns c =
     let e0 = length-diffuseLighting (c .before .args .v) in
@@ -18,4 +12,4 @@ returns c =
     (omega arith, omega arith)
 
 pub diffuse-lighting-size-spec : {M : Type 1} → statement M
-diffuse-lighting-size-spec = tie.close (tie.spec light-source-size-requires add-result returns)
+diffuse-lighting-size-spec = tie.close (tie.spec (λ c κs. search needs) (λ c. search needs) returns)

@@ -7,21 +7,6 @@ use borrow.Author.Needs.{needs}
 use Rattle.tree.proofs.light_source_size.Statement.{statement}
 use Rattle.tree.proofs.light_source_size.Tie as tie
 
-enum-told : tie.Need-enum-told
-enum-told c = search needs
-
-enum-told-2 : tie.Need-enum-told-2
-enum-told-2 c = search needs
-
-enum-known-v : tie.Need-enum-known-v
-enum-known-v c = search needs
-
-option-size-requires : tie.Need-option-size-requires
-option-size-requires c κs = search needs
-
-add-result : tie.Need-add-result
-add-result c = search needs
-
 returns : tie.Need-returns
 returns c =
     let e0 = length-lightSource (c .before .before .args .v) ∙ ap lightSourceSize (c .enum-told .given .1) in
@@ -41,11 +26,11 @@ pub light-source-size-spec : {M : Type 1} → statement M
 light-source-size-spec =
     tie.close
     (tie.spec
-    enum-told
-    enum-told-2
-    enum-known-v
-    option-size-requires
-    add-result
+    (λ c. search needs)
+    (λ c. search needs)
+    (λ c. search needs)
+    (λ c κs. search needs)
+    (λ c. search needs)
     returns
     returns-2
     returns-3)

@@ -7,18 +7,6 @@ use borrow.Author.Needs.{needs}
 use Rattle.tree.proofs.numbers_size.Statement.{statement}
 use Rattle.tree.proofs.numbers_size.Tie as tie
 
-numbers-len-requires : tie.Need-numbers-len-requires
-numbers-len-requires c κs = search needs
-
-u16-to-u32-requires : tie.Need-u16-to-u32-requires
-u16-to-u32-requires c κs = search needs
-
-mul-result : tie.Need-mul-result
-mul-result c = search needs
-
-add-result : tie.Need-add-result
-add-result c = search needs
-
 returns : tie.Need-returns
 returns c =
     let e0 = length-numbers (numbersIs (now (c .before .before .before .args .s)) (c .before .before .before .args .v)) in
@@ -26,4 +14,4 @@ returns c =
 
 pub numbers-size-spec : {M : Type 1} → statement M
 numbers-size-spec =
-    tie.close (tie.spec numbers-len-requires u16-to-u32-requires mul-result add-result returns)
+    tie.close (tie.spec (λ c κs. search needs) (λ c κs. search needs) (λ c. search needs) (λ c. search needs) returns)

@@ -3,20 +3,8 @@ use borrow.Author.Needs.{needs}
 use Rattle.tree.proofs.put_bool.Statement.{statement}
 use Rattle.tree.proofs.put_bool.Tie as tie
 
-put-u8-requires : tie.Need-put-u8-requires
-put-u8-requires c κs = search needs
-
-same-length : tie.Need-same-length
-same-length c = search needs
-
 returns : tie.Need-returns
 returns c = rw (c .before .before .before .before .if1 .taken) (c .before .before .put-u8 .ensures)
-
-put-u8-requires-2 : tie.Need-put-u8-requires-2
-put-u8-requires-2 c κs = search needs
-
-same-length-2 : tie.Need-same-length-2
-same-length-2 c = search needs
 
 returns-2 : tie.Need-returns-2
 returns-2 c = rw (c .before .before .before .before .if1 .left) (c .before .before .put-u82 .ensures)
@@ -24,4 +12,4 @@ returns-2 c = rw (c .before .before .before .before .if1 .left) (c .before .befo
 pub put-bool-spec : {M : Type 1} → statement M
 put-bool-spec =
     tie.close
-    (tie.spec put-u8-requires same-length returns put-u8-requires-2 same-length-2 returns-2)
+    (tie.spec (λ c κs. search needs) (λ c. search needs) returns (λ c κs. search needs) (λ c. search needs) returns-2)

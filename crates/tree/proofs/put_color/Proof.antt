@@ -6,18 +6,6 @@ use borrow.Author.Needs.{needs}
 use Rattle.tree.proofs.put_color.Statement.{statement}
 use Rattle.tree.proofs.put_color.Tie as tie
 
-put-u8-requires : tie.Need-put-u8-requires
-put-u8-requires c κs = search needs
-
-put-u8-requires-2 : tie.Need-put-u8-requires-2
-put-u8-requires-2 c κs = search needs
-
-put-u8-requires-3 : tie.Need-put-u8-requires-3
-put-u8-requires-3 c κs = search needs
-
-same-length : tie.Need-same-length
-same-length c = search needs
-
 returns : tie.Need-returns
 unfolding colorBytes
 returns c =
@@ -28,4 +16,4 @@ returns c =
 
 pub put-color-spec : {M : Type 1} → statement M
 put-color-spec =
-    tie.close (tie.spec put-u8-requires put-u8-requires-2 put-u8-requires-3 same-length returns)
+    tie.close (tie.spec (λ c κs. search needs) (λ c κs. search needs) (λ c κs. search needs) (λ c. search needs) returns)

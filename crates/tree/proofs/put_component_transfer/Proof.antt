@@ -6,21 +6,6 @@ use borrow.Author.Needs.{needs}
 use Rattle.tree.proofs.put_component_transfer.Statement.{statement}
 use Rattle.tree.proofs.put_component_transfer.Tie as tie
 
-put-transfer-function-requires : tie.Need-put-transfer-function-requires
-put-transfer-function-requires c κs = search needs
-
-put-transfer-function-requires-2 : tie.Need-put-transfer-function-requires-2
-put-transfer-function-requires-2 c κs = search needs
-
-put-transfer-function-requires-3 : tie.Need-put-transfer-function-requires-3
-put-transfer-function-requires-3 c κs = search needs
-
-put-transfer-function-requires-4 : tie.Need-put-transfer-function-requires-4
-put-transfer-function-requires-4 c κs = search needs
-
-same-length : tie.Need-same-length
-same-length c = search needs
-
 returns : tie.Need-returns
 unfolding componentTransferBytes
 returns c =
@@ -34,9 +19,9 @@ pub put-component-transfer-spec : {M : Type 1} → statement M
 put-component-transfer-spec =
     tie.close
     (tie.spec
-    put-transfer-function-requires
-    put-transfer-function-requires-2
-    put-transfer-function-requires-3
-    put-transfer-function-requires-4
-    same-length
+    (λ c κs. search needs)
+    (λ c κs. search needs)
+    (λ c κs. search needs)
+    (λ c κs. search needs)
+    (λ c. search needs)
     returns)

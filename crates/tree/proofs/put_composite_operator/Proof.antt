@@ -8,44 +8,23 @@ use borrow.Author.Needs.{needs}
 use Rattle.tree.proofs.put_composite_operator.Statement.{statement}
 use Rattle.tree.proofs.put_composite_operator.Tie as tie
 
-enum-told : tie.Need-enum-told
-enum-told c = search needs
-
 put-u8-requires : tie.Need-put-u8-requires
 put-u8-requires c κs = omega (arith, ap compositeOperatorSize (c .before .enum-told .given .1))
-
-enum-told-2 : tie.Need-enum-told-2
-enum-told-2 c = search needs
 
 put-u8-requires-2 : tie.Need-put-u8-requires-2
 put-u8-requires-2 c κs = omega (arith, ap compositeOperatorSize (c .before .enum-told2 .given .1))
 
-enum-told-3 : tie.Need-enum-told-3
-enum-told-3 c = search needs
-
 put-u8-requires-3 : tie.Need-put-u8-requires-3
 put-u8-requires-3 c κs = omega (arith, ap compositeOperatorSize (c .before .enum-told3 .given .1))
-
-enum-told-4 : tie.Need-enum-told-4
-enum-told-4 c = search needs
 
 put-u8-requires-4 : tie.Need-put-u8-requires-4
 put-u8-requires-4 c κs = omega (arith, ap compositeOperatorSize (c .before .enum-told4 .given .1))
 
-enum-told-5 : tie.Need-enum-told-5
-enum-told-5 c = search needs
-
 put-u8-requires-5 : tie.Need-put-u8-requires-5
 put-u8-requires-5 c κs = omega (arith, ap compositeOperatorSize (c .before .enum-told5 .given .1))
 
-enum-told-6 : tie.Need-enum-told-6
-enum-told-6 c = search needs
-
 put-u8-requires-6 : tie.Need-put-u8-requires-6
 put-u8-requires-6 c κs = omega (arith, ap compositeOperatorSize (c .before .enum-told6 .given .1))
-
-enum-known-v : tie.Need-enum-known-v
-enum-known-v c = search needs
 
 put-u8-requires-7 : tie.Need-put-u8-requires-7
 put-u8-requires-7 c κs = omega (arith, ap compositeOperatorSize (c .before .before .v .given .1))
@@ -62,17 +41,11 @@ put-f32-requires-3 c κs = omega (arith, ap compositeOperatorSize (c .before .be
 put-f32-requires-4 : tie.Need-put-f32-requires-4
 put-f32-requires-4 c κs = omega (arith, ap compositeOperatorSize (c .before .before .before .before .before .before .before .before .before .before .before .before .before .before .before .before .before .before .v .given .1))
 
-same-length : tie.Need-same-length
-same-length c = search needs
-
 returns : tie.Need-returns
 unfolding compositeOperatorBytes
 returns c =
     let c1 = c .before .before in
     rw (c .before .before .before .before .enum-told .given .1) (c1 .put-u8 .ensures)
-
-same-length-2 : tie.Need-same-length-2
-same-length-2 c = search needs
 
 returns-2 : tie.Need-returns-2
 unfolding compositeOperatorBytes
@@ -80,17 +53,11 @@ returns-2 c =
     let c1 = c .before .before in
     rw (c .before .before .before .before .enum-told2 .given .1) (c1 .put-u82 .ensures)
 
-same-length-3 : tie.Need-same-length-3
-same-length-3 c = search needs
-
 returns-3 : tie.Need-returns-3
 unfolding compositeOperatorBytes
 returns-3 c =
     let c1 = c .before .before in
     rw (c .before .before .before .before .enum-told3 .given .1) (c1 .put-u83 .ensures)
-
-same-length-4 : tie.Need-same-length-4
-same-length-4 c = search needs
 
 returns-4 : tie.Need-returns-4
 unfolding compositeOperatorBytes
@@ -98,26 +65,17 @@ returns-4 c =
     let c1 = c .before .before in
     rw (c .before .before .before .before .enum-told4 .given .1) (c1 .put-u84 .ensures)
 
-same-length-5 : tie.Need-same-length-5
-same-length-5 c = search needs
-
 returns-5 : tie.Need-returns-5
 unfolding compositeOperatorBytes
 returns-5 c =
     let c1 = c .before .before in
     rw (c .before .before .before .before .enum-told5 .given .1) (c1 .put-u85 .ensures)
 
-same-length-6 : tie.Need-same-length-6
-same-length-6 c = search needs
-
 returns-6 : tie.Need-returns-6
 unfolding compositeOperatorBytes
 returns-6 c =
     let c1 = c .before .before in
     rw (c .before .before .before .before .enum-told6 .given .1) (c1 .put-u86 .ensures)
-
-same-length-7 : tie.Need-same-length-7
-same-length-7 c = search needs
 
 returns-7 : tie.Need-returns-7
 unfolding compositeOperatorBytes
@@ -133,35 +91,35 @@ pub put-composite-operator-spec : {M : Type 1} → statement M
 put-composite-operator-spec =
     tie.close
     (tie.spec
-    enum-told
+    (λ c. search needs)
     put-u8-requires
-    enum-told-2
+    (λ c. search needs)
     put-u8-requires-2
-    enum-told-3
+    (λ c. search needs)
     put-u8-requires-3
-    enum-told-4
+    (λ c. search needs)
     put-u8-requires-4
-    enum-told-5
+    (λ c. search needs)
     put-u8-requires-5
-    enum-told-6
+    (λ c. search needs)
     put-u8-requires-6
-    enum-known-v
+    (λ c. search needs)
     put-u8-requires-7
     put-f32-requires
     put-f32-requires-2
     put-f32-requires-3
     put-f32-requires-4
-    same-length
+    (λ c. search needs)
     returns
-    same-length-2
+    (λ c. search needs)
     returns-2
-    same-length-3
+    (λ c. search needs)
     returns-3
-    same-length-4
+    (λ c. search needs)
     returns-4
-    same-length-5
+    (λ c. search needs)
     returns-5
-    same-length-6
+    (λ c. search needs)
     returns-6
-    same-length-7
+    (λ c. search needs)
     returns-7)

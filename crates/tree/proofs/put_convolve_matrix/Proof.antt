@@ -6,27 +6,6 @@ use borrow.Author.Needs.{needs}
 use Rattle.tree.proofs.put_convolve_matrix.Statement.{statement}
 use Rattle.tree.proofs.put_convolve_matrix.Tie as tie
 
-put-convolve-matrix-data-requires : tie.Need-put-convolve-matrix-data-requires
-put-convolve-matrix-data-requires c κs = search needs
-
-put-f32-requires : tie.Need-put-f32-requires
-put-f32-requires c κs = search needs
-
-put-f32-requires-2 : tie.Need-put-f32-requires-2
-put-f32-requires-2 c κs = search needs
-
-edge-mode-place-requires : tie.Need-edge-mode-place-requires
-edge-mode-place-requires c κs = search needs
-
-put-u8-requires : tie.Need-put-u8-requires
-put-u8-requires c κs = search needs
-
-put-bool-requires : tie.Need-put-bool-requires
-put-bool-requires c κs = search needs
-
-same-length : tie.Need-same-length
-same-length c = search needs
-
 returns : tie.Need-returns
 unfolding convolveMatrixBytes
 returns c =
@@ -41,11 +20,11 @@ pub put-convolve-matrix-spec : {M : Type 1} → statement M
 put-convolve-matrix-spec =
     tie.close
     (tie.spec
-    put-convolve-matrix-data-requires
-    put-f32-requires
-    put-f32-requires-2
-    edge-mode-place-requires
-    put-u8-requires
-    put-bool-requires
-    same-length
+    (λ c κs. search needs)
+    (λ c κs. search needs)
+    (λ c κs. search needs)
+    (λ c κs. search needs)
+    (λ c κs. search needs)
+    (λ c κs. search needs)
+    (λ c. search needs)
     returns)

@@ -6,24 +6,6 @@ use borrow.Author.Needs.{needs}
 use Rattle.tree.proofs.put_convolve_matrix_data.Statement.{statement}
 use Rattle.tree.proofs.put_convolve_matrix_data.Tie as tie
 
-put-u32-requires : tie.Need-put-u32-requires
-put-u32-requires c κs = search needs
-
-put-u32-requires-2 : tie.Need-put-u32-requires-2
-put-u32-requires-2 c κs = search needs
-
-put-u32-requires-3 : tie.Need-put-u32-requires-3
-put-u32-requires-3 c κs = search needs
-
-put-u32-requires-4 : tie.Need-put-u32-requires-4
-put-u32-requires-4 c κs = search needs
-
-put-numbers-requires : tie.Need-put-numbers-requires
-put-numbers-requires c κs = search needs
-
-same-length : tie.Need-same-length
-same-length c = search needs
-
 returns : tie.Need-returns
 unfolding convolveMatrixDataBytes
 returns c =
@@ -38,10 +20,10 @@ pub put-convolve-matrix-data-spec : {M : Type 1} → statement M
 put-convolve-matrix-data-spec =
     tie.close
     (tie.spec
-    put-u32-requires
-    put-u32-requires-2
-    put-u32-requires-3
-    put-u32-requires-4
-    put-numbers-requires
-    same-length
+    (λ c κs. search needs)
+    (λ c κs. search needs)
+    (λ c κs. search needs)
+    (λ c κs. search needs)
+    (λ c κs. search needs)
+    (λ c. search needs)
     returns)

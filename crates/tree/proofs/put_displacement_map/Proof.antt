@@ -6,24 +6,6 @@ use borrow.Author.Needs.{needs}
 use Rattle.tree.proofs.put_displacement_map.Statement.{statement}
 use Rattle.tree.proofs.put_displacement_map.Tie as tie
 
-put-f32-requires : tie.Need-put-f32-requires
-put-f32-requires c κs = search needs
-
-color-channel-place-requires : tie.Need-color-channel-place-requires
-color-channel-place-requires c κs = search needs
-
-put-u8-requires : tie.Need-put-u8-requires
-put-u8-requires c κs = search needs
-
-color-channel-place-requires-2 : tie.Need-color-channel-place-requires-2
-color-channel-place-requires-2 c κs = search needs
-
-put-u8-requires-2 : tie.Need-put-u8-requires-2
-put-u8-requires-2 c κs = search needs
-
-same-length : tie.Need-same-length
-same-length c = search needs
-
 returns : tie.Need-returns
 unfolding displacementMapBytes
 returns c =
@@ -36,10 +18,10 @@ pub put-displacement-map-spec : {M : Type 1} → statement M
 put-displacement-map-spec =
     tie.close
     (tie.spec
-    put-f32-requires
-    color-channel-place-requires
-    put-u8-requires
-    color-channel-place-requires-2
-    put-u8-requires-2
-    same-length
+    (λ c κs. search needs)
+    (λ c κs. search needs)
+    (λ c κs. search needs)
+    (λ c κs. search needs)
+    (λ c κs. search needs)
+    (λ c. search needs)
     returns)

@@ -6,15 +6,6 @@ use borrow.Author.Needs.{needs}
 use Rattle.tree.proofs.put_distant_light.Statement.{statement}
 use Rattle.tree.proofs.put_distant_light.Tie as tie
 
-put-f32-requires : tie.Need-put-f32-requires
-put-f32-requires c κs = search needs
-
-put-f32-requires-2 : tie.Need-put-f32-requires-2
-put-f32-requires-2 c κs = search needs
-
-same-length : tie.Need-same-length
-same-length c = search needs
-
 returns : tie.Need-returns
 unfolding distantLightBytes
 returns c =
@@ -24,4 +15,4 @@ returns c =
 
 pub put-distant-light-spec : {M : Type 1} → statement M
 put-distant-light-spec =
-    tie.close (tie.spec put-f32-requires put-f32-requires-2 same-length returns)
+    tie.close (tie.spec (λ c κs. search needs) (λ c κs. search needs) (λ c. search needs) returns)

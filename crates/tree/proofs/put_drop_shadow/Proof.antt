@@ -6,27 +6,6 @@ use borrow.Author.Needs.{needs}
 use Rattle.tree.proofs.put_drop_shadow.Statement.{statement}
 use Rattle.tree.proofs.put_drop_shadow.Tie as tie
 
-put-f32-requires : tie.Need-put-f32-requires
-put-f32-requires c κs = search needs
-
-put-f32-requires-2 : tie.Need-put-f32-requires-2
-put-f32-requires-2 c κs = search needs
-
-put-f32-requires-3 : tie.Need-put-f32-requires-3
-put-f32-requires-3 c κs = search needs
-
-put-f32-requires-4 : tie.Need-put-f32-requires-4
-put-f32-requires-4 c κs = search needs
-
-put-color-requires : tie.Need-put-color-requires
-put-color-requires c κs = search needs
-
-put-f32-requires-5 : tie.Need-put-f32-requires-5
-put-f32-requires-5 c κs = search needs
-
-same-length : tie.Need-same-length
-same-length c = search needs
-
 returns : tie.Need-returns
 unfolding dropShadowBytes
 returns c =
@@ -42,11 +21,11 @@ pub put-drop-shadow-spec : {M : Type 1} → statement M
 put-drop-shadow-spec =
     tie.close
     (tie.spec
-    put-f32-requires
-    put-f32-requires-2
-    put-f32-requires-3
-    put-f32-requires-4
-    put-color-requires
-    put-f32-requires-5
-    same-length
+    (λ c κs. search needs)
+    (λ c κs. search needs)
+    (λ c κs. search needs)
+    (λ c κs. search needs)
+    (λ c κs. search needs)
+    (λ c κs. search needs)
+    (λ c. search needs)
     returns)

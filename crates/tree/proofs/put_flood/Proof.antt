@@ -6,15 +6,6 @@ use borrow.Author.Needs.{needs}
 use Rattle.tree.proofs.put_flood.Statement.{statement}
 use Rattle.tree.proofs.put_flood.Tie as tie
 
-put-color-requires : tie.Need-put-color-requires
-put-color-requires c κs = search needs
-
-put-f32-requires : tie.Need-put-f32-requires
-put-f32-requires c κs = search needs
-
-same-length : tie.Need-same-length
-same-length c = search needs
-
 returns : tie.Need-returns
 unfolding floodBytes
 returns c =
@@ -23,4 +14,4 @@ returns c =
     c1 .put-color .ensures then c2 .put-f32 .ensures counted omega arith
 
 pub put-flood-spec : {M : Type 1} → statement M
-put-flood-spec = tie.close (tie.spec put-color-requires put-f32-requires same-length returns)
+put-flood-spec = tie.close (tie.spec (λ c κs. search needs) (λ c κs. search needs) (λ c. search needs) returns)

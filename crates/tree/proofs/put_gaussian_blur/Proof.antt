@@ -6,15 +6,6 @@ use borrow.Author.Needs.{needs}
 use Rattle.tree.proofs.put_gaussian_blur.Statement.{statement}
 use Rattle.tree.proofs.put_gaussian_blur.Tie as tie
 
-put-f32-requires : tie.Need-put-f32-requires
-put-f32-requires c κs = search needs
-
-put-f32-requires-2 : tie.Need-put-f32-requires-2
-put-f32-requires-2 c κs = search needs
-
-same-length : tie.Need-same-length
-same-length c = search needs
-
 returns : tie.Need-returns
 unfolding gaussianBlurBytes
 returns c =
@@ -24,4 +15,4 @@ returns c =
 
 pub put-gaussian-blur-spec : {M : Type 1} → statement M
 put-gaussian-blur-spec =
-    tie.close (tie.spec put-f32-requires put-f32-requires-2 same-length returns)
+    tie.close (tie.spec (λ c κs. search needs) (λ c κs. search needs) (λ c. search needs) returns)

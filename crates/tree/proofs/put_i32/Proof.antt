@@ -7,15 +7,6 @@ use borrow.Author.Needs.{needs}
 use Rattle.tree.proofs.put_i32.Statement.{statement}
 use Rattle.tree.proofs.put_i32.Tie as tie
 
-i32-bits-requires : tie.Need-i32-bits-requires
-i32-bits-requires c κs = search needs
-
-put-u32-requires : tie.Need-put-u32-requires
-put-u32-requires c κs = search needs
-
-same-length : tie.Need-same-length
-same-length c = search needs
-
 returns : tie.Need-returns
 unfolding i32Bytes
 returns c =
@@ -23,4 +14,4 @@ returns c =
     rw (← e) (c .before .before .put-u32 .ensures)
 
 pub put-i32-spec : {M : Type 1} → statement M
-put-i32-spec = tie.close (tie.spec i32-bits-requires put-u32-requires same-length returns)
+put-i32-spec = tie.close (tie.spec (λ c κs. search needs) (λ c κs. search needs) (λ c. search needs) returns)

@@ -8,17 +8,11 @@ use borrow.Author.Needs.{needs}
 use Rattle.tree.proofs.put_light_source.Statement.{statement}
 use Rattle.tree.proofs.put_light_source.Tie as tie
 
-enum-known-v : tie.Need-enum-known-v
-enum-known-v c = search needs
-
 put-u8-requires : tie.Need-put-u8-requires
 put-u8-requires c κs = omega (arith, ap lightSourceSize (c .before .before .v .given .1))
 
 put-distant-light-requires : tie.Need-put-distant-light-requires
 put-distant-light-requires c κs = omega (arith, ap lightSourceSize (c .before .before .before .before .before .before .v .given .1))
-
-enum-known-v-2 : tie.Need-enum-known-v-2
-enum-known-v-2 c = search needs
 
 put-u8-requires-2 : tie.Need-put-u8-requires-2
 put-u8-requires-2 c κs = omega (arith, ap lightSourceSize (c .before .before .v2 .given .1))
@@ -26,17 +20,11 @@ put-u8-requires-2 c κs = omega (arith, ap lightSourceSize (c .before .before .v
 put-triple-requires : tie.Need-put-triple-requires
 put-triple-requires c κs = omega (arith, ap lightSourceSize (c .before .before .before .before .before .before .v2 .given .1))
 
-enum-known-v-3 : tie.Need-enum-known-v-3
-enum-known-v-3 c = search needs
-
 put-u8-requires-3 : tie.Need-put-u8-requires-3
 put-u8-requires-3 c κs = omega (arith, ap lightSourceSize (c .before .before .v3 .given .1))
 
 put-spot-light-requires : tie.Need-put-spot-light-requires
 put-spot-light-requires c κs = omega (arith, ap lightSourceSize (c .before .before .before .before .before .before .v3 .given .1))
-
-same-length : tie.Need-same-length
-same-length c = search needs
 
 returns : tie.Need-returns
 unfolding lightSourceBytes pointLightBytes
@@ -45,18 +33,12 @@ returns c =
     let c1 = c2 .before .before .before .before in
     rw (c .before .before .before .before .before .before .before .before .before .v .given .1) (c1 .put-u8 .ensures then c2 .put-distant-light .ensures counted omega arith)
 
-same-length-2 : tie.Need-same-length-2
-same-length-2 c = search needs
-
 returns-2 : tie.Need-returns-2
 unfolding lightSourceBytes pointLightBytes
 returns-2 c =
     let c2 = c .before .before in
     let c1 = c2 .before .before .before .before in
     rw (c .before .before .before .before .before .before .before .before .before .v2 .given .1) (c1 .put-u82 .ensures then c2 .put-triple .ensures counted omega arith)
-
-same-length-3 : tie.Need-same-length-3
-same-length-3 c = search needs
 
 returns-3 : tie.Need-returns-3
 unfolding lightSourceBytes pointLightBytes
@@ -69,18 +51,18 @@ pub put-light-source-spec : {M : Type 1} → statement M
 put-light-source-spec =
     tie.close
     (tie.spec
-    enum-known-v
+    (λ c. search needs)
     put-u8-requires
     put-distant-light-requires
-    enum-known-v-2
+    (λ c. search needs)
     put-u8-requires-2
     put-triple-requires
-    enum-known-v-3
+    (λ c. search needs)
     put-u8-requires-3
     put-spot-light-requires
-    same-length
+    (λ c. search needs)
     returns
-    same-length-2
+    (λ c. search needs)
     returns-2
-    same-length-3
+    (λ c. search needs)
     returns-3)

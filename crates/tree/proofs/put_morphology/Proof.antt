@@ -6,21 +6,6 @@ use borrow.Author.Needs.{needs}
 use Rattle.tree.proofs.put_morphology.Statement.{statement}
 use Rattle.tree.proofs.put_morphology.Tie as tie
 
-morphology-operator-place-requires : tie.Need-morphology-operator-place-requires
-morphology-operator-place-requires c κs = search needs
-
-put-u8-requires : tie.Need-put-u8-requires
-put-u8-requires c κs = search needs
-
-put-f32-requires : tie.Need-put-f32-requires
-put-f32-requires c κs = search needs
-
-put-f32-requires-2 : tie.Need-put-f32-requires-2
-put-f32-requires-2 c κs = search needs
-
-same-length : tie.Need-same-length
-same-length c = search needs
-
 returns : tie.Need-returns
 unfolding morphologyBytes
 returns c =
@@ -33,9 +18,9 @@ pub put-morphology-spec : {M : Type 1} → statement M
 put-morphology-spec =
     tie.close
     (tie.spec
-    morphology-operator-place-requires
-    put-u8-requires
-    put-f32-requires
-    put-f32-requires-2
-    same-length
+    (λ c κs. search needs)
+    (λ c κs. search needs)
+    (λ c κs. search needs)
+    (λ c κs. search needs)
+    (λ c. search needs)
     returns)

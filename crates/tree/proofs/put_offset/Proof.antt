@@ -6,15 +6,6 @@ use borrow.Author.Needs.{needs}
 use Rattle.tree.proofs.put_offset.Statement.{statement}
 use Rattle.tree.proofs.put_offset.Tie as tie
 
-put-f32-requires : tie.Need-put-f32-requires
-put-f32-requires c κs = search needs
-
-put-f32-requires-2 : tie.Need-put-f32-requires-2
-put-f32-requires-2 c κs = search needs
-
-same-length : tie.Need-same-length
-same-length c = search needs
-
 returns : tie.Need-returns
 unfolding offsetBytes
 returns c =
@@ -23,4 +14,4 @@ returns c =
     c1 .put-f32 .ensures then c2 .put-f322 .ensures counted omega arith
 
 pub put-offset-spec : {M : Type 1} → statement M
-put-offset-spec = tie.close (tie.spec put-f32-requires put-f32-requires-2 same-length returns)
+put-offset-spec = tie.close (tie.spec (λ c κs. search needs) (λ c κs. search needs) (λ c. search needs) returns)

@@ -7,14 +7,8 @@ use borrow.Author.Needs.{needs}
 use Rattle.tree.proofs.put_option.Statement.{statement}
 use Rattle.tree.proofs.put_option.Tie as tie
 
-enum-told : tie.Need-enum-told
-enum-told c = search needs
-
 put-u8-requires : tie.Need-put-u8-requires
 put-u8-requires c κs = omega (arith, ap optionSize (c .before .enum-told .given .1))
-
-enum-known-v : tie.Need-enum-known-v
-enum-known-v c = search needs
 
 put-u8-requires-2 : tie.Need-put-u8-requires-2
 put-u8-requires-2 c κs = omega (arith, ap optionSize (c .before .before .v .given .1))
@@ -22,17 +16,11 @@ put-u8-requires-2 c κs = omega (arith, ap optionSize (c .before .before .v .giv
 put-f32-requires : tie.Need-put-f32-requires
 put-f32-requires c κs = omega (arith, ap optionSize (c .before .before .before .before .before .before .v .given .1))
 
-same-length : tie.Need-same-length
-same-length c = search needs
-
 returns : tie.Need-returns
 unfolding optionBytes
 returns c =
     let c1 = c .before .before in
     rw (c .before .before .before .before .enum-told .given .1) (c1 .put-u8 .ensures)
-
-same-length-2 : tie.Need-same-length-2
-same-length-2 c = search needs
 
 returns-2 : tie.Need-returns-2
 unfolding optionBytes
@@ -45,12 +33,12 @@ pub put-option-spec : {M : Type 1} → statement M
 put-option-spec =
     tie.close
     (tie.spec
-    enum-told
+    (λ c. search needs)
     put-u8-requires
-    enum-known-v
+    (λ c. search needs)
     put-u8-requires-2
     put-f32-requires
-    same-length
+    (λ c. search needs)
     returns
-    same-length-2
+    (λ c. search needs)
     returns-2)

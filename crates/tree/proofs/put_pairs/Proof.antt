@@ -23,21 +23,6 @@ loop-holds c =
     let a = c .before .args in
     (search needs, search needs, omega (arith, total-none (now (a .sizes))), rw (pairs-none (a .base) (now (a .sizes))) (put-none (now (a .out)) (a .at)))
 
-wide16-requires : tie.Need-wide16-requires Inv-loop μ-loop
-wide16-requires c κs = search needs
-
-mul-k : tie.Need-mul-k Inv-loop μ-loop
-mul-k c = search needs
-
-element-copy-out-k : tie.Need-element-copy-out-k Inv-loop μ-loop
-element-copy-out-k c = search needs
-
-put-u32-requires : tie.Need-put-u32-requires Inv-loop μ-loop
-put-u32-requires c κs = search needs
-
-put-u32-requires-2 : tie.Need-put-u32-requires-2 Inv-loop μ-loop
-put-u32-requires-2 c κs = search needs
-
 add-start : tie.Need-add-start Inv-loop μ-loop
 add-start c =
     let a = c .before .before .before .before .before .before .before .before .before .before .before .before .before .args in
@@ -48,12 +33,6 @@ add-start c =
     let e : getD sizes (c .before .before .before .before .before .before .before .before .before .wide16 .result) 0 ≡ getD sizes (l .j) 0 = rw (c .before .before .before .before .before .before .before .before .before .wide16 .ensures .0) in
     record { fits = omega (arith, r, e, l .inv .2, c .before .before .before .before .before .before .before .before .before .before .before .before .before .pre .3) }
 
-add-j : tie.Need-add-j Inv-loop μ-loop
-add-j c = search needs
-
-loop-less : tie.Need-loop-less Inv-loop μ-loop
-loop-less c = search needs
-
 loop-again : tie.Need-loop-again Inv-loop μ-loop
 loop-again c =
     let a = c .before .before .before .before .before .before .before .before .before .before .before .before .before .args in
@@ -63,9 +42,6 @@ loop-again c =
     let e : getD sizes (c .before .before .before .before .before .before .before .before .before .wide16 .result) 0 ≡ getD sizes (l .j) 0 = rw (c .before .before .before .before .before .before .before .before .before .wide16 .ensures .0) in
     let p = rw (e, l .inv .2) at (c .before .before .before .before .before .before .put-u32 .ensures then c .before .before .put-u322 .ensures) in
     (search needs, search needs, omega (arith, total-more sizes (l .j) h, e, l .inv .2), rw (taken-more sizes (l .j) h, pairs-snoc (take (l .j) sizes) (a .base) (getD sizes (l .j) 0)) (l .inv .3 then p counted omega arith))
-
-same-length : tie.Need-same-length Inv-loop μ-loop
-same-length c = search needs
 
 returns : tie.Need-returns Inv-loop μ-loop
 returns c =
@@ -80,14 +56,14 @@ put-pairs-spec =
     Inv-loop
     μ-loop
     loop-holds
-    wide16-requires
-    mul-k
-    element-copy-out-k
-    put-u32-requires
-    put-u32-requires-2
+    (λ c κs. search needs)
+    (λ c. search needs)
+    (λ c. search needs)
+    (λ c κs. search needs)
+    (λ c κs. search needs)
     add-start
-    add-j
-    loop-less
+    (λ c. search needs)
+    (λ c. search needs)
     loop-again
-    same-length
+    (λ c. search needs)
     returns)

@@ -6,33 +6,6 @@ use borrow.Author.Needs.{needs}
 use Rattle.tree.proofs.put_rect.Statement.{statement}
 use Rattle.tree.proofs.put_rect.Tie as tie
 
-x-requires : tie.Need-x-requires
-x-requires c κs = search needs
-
-put-f32-requires : tie.Need-put-f32-requires
-put-f32-requires c κs = search needs
-
-y-requires : tie.Need-y-requires
-y-requires c κs = search needs
-
-put-f32-requires-2 : tie.Need-put-f32-requires-2
-put-f32-requires-2 c κs = search needs
-
-width-requires : tie.Need-width-requires
-width-requires c κs = search needs
-
-put-f32-requires-3 : tie.Need-put-f32-requires-3
-put-f32-requires-3 c κs = search needs
-
-height-requires : tie.Need-height-requires
-height-requires c κs = search needs
-
-put-f32-requires-4 : tie.Need-put-f32-requires-4
-put-f32-requires-4 c κs = search needs
-
-same-length : tie.Need-same-length
-same-length c = search needs
-
 returns : tie.Need-returns
 unfolding rectBytes
 returns c =
@@ -46,13 +19,13 @@ pub put-rect-spec : {M : Type 1} → statement M
 put-rect-spec =
     tie.close
     (tie.spec
-    x-requires
-    put-f32-requires
-    y-requires
-    put-f32-requires-2
-    width-requires
-    put-f32-requires-3
-    height-requires
-    put-f32-requires-4
-    same-length
+    (λ c κs. search needs)
+    (λ c κs. search needs)
+    (λ c κs. search needs)
+    (λ c κs. search needs)
+    (λ c κs. search needs)
+    (λ c κs. search needs)
+    (λ c κs. search needs)
+    (λ c κs. search needs)
+    (λ c. search needs)
     returns)

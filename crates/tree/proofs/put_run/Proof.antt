@@ -26,18 +26,6 @@ loop-holds c =
     let a = c .before .before .args in
     (search needs, search needs, rw (run-none (numbersIs (now (a .s)) (a .v))) (put-none (now (a .out)) (a .at)))
 
-number-at-requires : tie.Need-number-at-requires Inv-loop μ-loop
-number-at-requires c κs = search needs
-
-put-f32-requires : tie.Need-put-f32-requires Inv-loop μ-loop
-put-f32-requires c κs = search needs
-
-add-j : tie.Need-add-j Inv-loop μ-loop
-add-j c = search needs
-
-loop-less : tie.Need-loop-less Inv-loop μ-loop
-loop-less c = search needs
-
 loop-again : tie.Need-loop-again Inv-loop μ-loop
 loop-again c =
     let a = c .before .before .before .before .before .before .before .before .before .args in
@@ -45,9 +33,6 @@ loop-again c =
     let xs = numbersIs (now (a .s)) (a .v) in
     let h : j < length xs = omega arith in
     (search needs, search needs, rw (run-more xs j plusZero h, ← c .before .before .before .number-at .ensures) (c .before .before .before .before .before .before .loop .inv .2 then c .before .before .put-f32 .ensures counted omega arith))
-
-same-length : tie.Need-same-length Inv-loop μ-loop
-same-length c = search needs
 
 returns : tie.Need-returns Inv-loop μ-loop
 returns c =
@@ -65,10 +50,10 @@ put-run-spec =
     Inv-loop
     μ-loop
     loop-holds
-    number-at-requires
-    put-f32-requires
-    add-j
-    loop-less
+    (λ c κs. search needs)
+    (λ c κs. search needs)
+    (λ c. search needs)
+    (λ c. search needs)
     loop-again
-    same-length
+    (λ c. search needs)
     returns)

@@ -6,21 +6,6 @@ use borrow.Author.Needs.{needs}
 use Rattle.tree.proofs.put_spot_light.Statement.{statement}
 use Rattle.tree.proofs.put_spot_light.Tie as tie
 
-put-triple-requires : tie.Need-put-triple-requires
-put-triple-requires c κs = search needs
-
-put-triple-requires-2 : tie.Need-put-triple-requires-2
-put-triple-requires-2 c κs = search needs
-
-put-f32-requires : tie.Need-put-f32-requires
-put-f32-requires c κs = search needs
-
-put-option-requires : tie.Need-put-option-requires
-put-option-requires c κs = search needs
-
-same-length : tie.Need-same-length
-same-length c = search needs
-
 returns : tie.Need-returns
 unfolding spotLightBytes
 returns c =
@@ -34,9 +19,9 @@ pub put-spot-light-spec : {M : Type 1} → statement M
 put-spot-light-spec =
     tie.close
     (tie.spec
-    put-triple-requires
-    put-triple-requires-2
-    put-f32-requires
-    put-option-requires
-    same-length
+    (λ c κs. search needs)
+    (λ c κs. search needs)
+    (λ c κs. search needs)
+    (λ c κs. search needs)
+    (λ c. search needs)
     returns)

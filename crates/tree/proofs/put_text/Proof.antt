@@ -6,22 +6,10 @@ use borrow.Author.Needs.{needs}
 use Rattle.tree.proofs.put_text.Statement.{statement}
 use Rattle.tree.proofs.put_text.Tie as tie
 
-u8-to-u16-requires : tie.Need-u8-to-u16-requires
-u8-to-u16-requires c κs = search needs
-
-put-u16-requires : tie.Need-put-u16-requires
-put-u16-requires c κs = search needs
-
-copy-requires : tie.Need-copy-requires
-copy-requires c κs = search needs
-
-same-length : tie.Need-same-length
-same-length c = search needs
-
 returns : tie.Need-returns
 unfolding textBytes
 returns c = rw (length-bytesFrom, ← c .before .before .before .before .before .before .before .before .u8-to-u16 .ensures .0) (c .before .before .before .before .before .before .put-u16 .ensures then c .before .before .copy .ensures)
 
 pub put-text-spec : {M : Type 1} → statement M
 put-text-spec =
-    tie.close (tie.spec u8-to-u16-requires put-u16-requires copy-requires same-length returns)
+    tie.close (tie.spec (λ c κs. search needs) (λ c κs. search needs) (λ c κs. search needs) (λ c. search needs) returns)

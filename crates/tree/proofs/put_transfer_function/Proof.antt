@@ -11,14 +11,8 @@ use borrow.Author.Needs.{needs}
 use Rattle.tree.proofs.put_transfer_function.Statement.{statement}
 use Rattle.tree.proofs.put_transfer_function.Tie as tie
 
-enum-told : tie.Need-enum-told
-enum-told c = search needs
-
 put-u8-requires : tie.Need-put-u8-requires
 put-u8-requires c κs = omega (arith, ap (λ (v : TransferFunction). transferFunctionSize (transferFunctionIs (now (c .before .before .before .before .before .args .s)) v)) (c .before .enum-told .given .1))
-
-enum-known-v : tie.Need-enum-known-v
-enum-known-v c = search needs
 
 put-u8-requires-2 : tie.Need-put-u8-requires-2
 put-u8-requires-2 c κs = omega (arith, ap (λ (v : TransferFunction). transferFunctionSize (transferFunctionIs (now (c .before .before .before .before .before .before .args .s)) v)) (c .before .before .v .given .1))
@@ -26,17 +20,11 @@ put-u8-requires-2 c κs = omega (arith, ap (λ (v : TransferFunction). transferF
 put-numbers-requires : tie.Need-put-numbers-requires
 put-numbers-requires c κs = omega (arith, ap (λ (v : TransferFunction). transferFunctionSize (transferFunctionIs (now (c .before .before .before .before .before .before .before .before .before .before .args .s)) v)) (c .before .before .before .before .before .before .v .given .1))
 
-enum-known-v-2 : tie.Need-enum-known-v-2
-enum-known-v-2 c = search needs
-
 put-u8-requires-3 : tie.Need-put-u8-requires-3
 put-u8-requires-3 c κs = omega (arith, ap (λ (v : TransferFunction). transferFunctionSize (transferFunctionIs (now (c .before .before .before .before .before .before .args .s)) v)) (c .before .before .v2 .given .1))
 
 put-numbers-requires-2 : tie.Need-put-numbers-requires-2
 put-numbers-requires-2 c κs = omega (arith, ap (λ (v : TransferFunction). transferFunctionSize (transferFunctionIs (now (c .before .before .before .before .before .before .before .before .before .before .args .s)) v)) (c .before .before .before .before .before .before .v2 .given .1))
-
-enum-known-v-3 : tie.Need-enum-known-v-3
-enum-known-v-3 c = search needs
 
 put-u8-requires-4 : tie.Need-put-u8-requires-4
 put-u8-requires-4 c κs = omega (arith, ap (λ (v : TransferFunction). transferFunctionSize (transferFunctionIs (now (c .before .before .before .before .before .before .args .s)) v)) (c .before .before .v3 .given .1))
@@ -46,9 +34,6 @@ put-f32-requires c κs = omega (arith, ap (λ (v : TransferFunction). transferFu
 
 put-f32-requires-2 : tie.Need-put-f32-requires-2
 put-f32-requires-2 c κs = omega (arith, ap (λ (v : TransferFunction). transferFunctionSize (transferFunctionIs (now (c .before .before .before .before .before .before .before .before .before .before .before .before .before .before .args .s)) v)) (c .before .before .before .before .before .before .before .before .before .before .v3 .given .1))
-
-enum-known-v-4 : tie.Need-enum-known-v-4
-enum-known-v-4 c = search needs
 
 put-u8-requires-5 : tie.Need-put-u8-requires-5
 put-u8-requires-5 c κs = omega (arith, ap (λ (v : TransferFunction). transferFunctionSize (transferFunctionIs (now (c .before .before .before .before .before .before .args .s)) v)) (c .before .before .v4 .given .1))
@@ -62,17 +47,11 @@ put-f32-requires-4 c κs = omega (arith, ap (λ (v : TransferFunction). transfer
 put-f32-requires-5 : tie.Need-put-f32-requires-5
 put-f32-requires-5 c κs = omega (arith, ap (λ (v : TransferFunction). transferFunctionSize (transferFunctionIs (now (c .before .before .before .before .before .before .before .before .before .before .before .before .before .before .before .before .before .before .args .s)) v)) (c .before .before .before .before .before .before .before .before .before .before .before .before .before .before .v4 .given .1))
 
-same-length : tie.Need-same-length
-same-length c = search needs
-
 returns : tie.Need-returns
 unfolding transferFunctionBytes
 returns c =
     let c1 = c .before .before in
     rw (c .before .before .before .before .enum-told .given .1) (c1 .put-u8 .ensures)
-
-same-length-2 : tie.Need-same-length-2
-same-length-2 c = search needs
 
 returns-2 : tie.Need-returns-2
 unfolding transferFunctionBytes
@@ -81,18 +60,12 @@ returns-2 c =
     let c1 = c2 .before .before .before .before in
     rw (c .before .before .before .before .before .before .before .before .before .v .given .1) (c1 .put-u82 .ensures then c2 .put-numbers .ensures counted omega arith)
 
-same-length-3 : tie.Need-same-length-3
-same-length-3 c = search needs
-
 returns-3 : tie.Need-returns-3
 unfolding transferFunctionBytes
 returns-3 c =
     let c2 = c .before .before in
     let c1 = c2 .before .before .before .before in
     rw (c .before .before .before .before .before .before .before .before .before .v2 .given .1) (c1 .put-u83 .ensures then c2 .put-numbers2 .ensures counted omega arith)
-
-same-length-4 : tie.Need-same-length-4
-same-length-4 c = search needs
 
 returns-4 : tie.Need-returns-4
 unfolding transferFunctionBytes
@@ -101,9 +74,6 @@ returns-4 c =
     let c2 = c3 .before .before .before .before in
     let c1 = c2 .before .before .before .before in
     rw (c .before .before .before .before .before .before .before .before .before .before .before .before .before .v3 .given .1) (c1 .put-u84 .ensures then c2 .put-f32 .ensures then c3 .put-f322 .ensures counted omega arith)
-
-same-length-5 : tie.Need-same-length-5
-same-length-5 c = search needs
 
 returns-5 : tie.Need-returns-5
 unfolding transferFunctionBytes
@@ -118,30 +88,30 @@ pub put-transfer-function-spec : {M : Type 1} → statement M
 put-transfer-function-spec =
     tie.close
     (tie.spec
-    enum-told
+    (λ c. search needs)
     put-u8-requires
-    enum-known-v
+    (λ c. search needs)
     put-u8-requires-2
     put-numbers-requires
-    enum-known-v-2
+    (λ c. search needs)
     put-u8-requires-3
     put-numbers-requires-2
-    enum-known-v-3
+    (λ c. search needs)
     put-u8-requires-4
     put-f32-requires
     put-f32-requires-2
-    enum-known-v-4
+    (λ c. search needs)
     put-u8-requires-5
     put-f32-requires-3
     put-f32-requires-4
     put-f32-requires-5
-    same-length
+    (λ c. search needs)
     returns
-    same-length-2
+    (λ c. search needs)
     returns-2
-    same-length-3
+    (λ c. search needs)
     returns-3
-    same-length-4
+    (λ c. search needs)
     returns-4
-    same-length-5
+    (λ c. search needs)
     returns-5)

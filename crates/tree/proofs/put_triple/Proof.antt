@@ -6,18 +6,6 @@ use borrow.Author.Needs.{needs}
 use Rattle.tree.proofs.put_triple.Statement.{statement}
 use Rattle.tree.proofs.put_triple.Tie as tie
 
-put-f32-requires : tie.Need-put-f32-requires
-put-f32-requires c κs = search needs
-
-put-f32-requires-2 : tie.Need-put-f32-requires-2
-put-f32-requires-2 c κs = search needs
-
-put-f32-requires-3 : tie.Need-put-f32-requires-3
-put-f32-requires-3 c κs = search needs
-
-same-length : tie.Need-same-length
-same-length c = search needs
-
 returns : tie.Need-returns
 unfolding tripleBytes
 returns c =
@@ -28,4 +16,4 @@ returns c =
 
 pub put-triple-spec : {M : Type 1} → statement M
 put-triple-spec =
-    tie.close (tie.spec put-f32-requires put-f32-requires-2 put-f32-requires-3 same-length returns)
+    tie.close (tie.spec (λ c κs. search needs) (λ c κs. search needs) (λ c κs. search needs) (λ c. search needs) returns)

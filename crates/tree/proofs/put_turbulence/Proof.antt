@@ -9,30 +9,6 @@ use borrow.Author.Needs.{needs}
 use Rattle.tree.proofs.put_turbulence.Statement.{statement}
 use Rattle.tree.proofs.put_turbulence.Tie as tie
 
-put-f32-requires : tie.Need-put-f32-requires
-put-f32-requires c κs = search needs
-
-put-f32-requires-2 : tie.Need-put-f32-requires-2
-put-f32-requires-2 c κs = search needs
-
-put-u32-requires : tie.Need-put-u32-requires
-put-u32-requires c κs = search needs
-
-put-i32-requires : tie.Need-put-i32-requires
-put-i32-requires c κs = search needs
-
-put-bool-requires : tie.Need-put-bool-requires
-put-bool-requires c κs = search needs
-
-turbulence-kind-place-requires : tie.Need-turbulence-kind-place-requires
-turbulence-kind-place-requires c κs = search needs
-
-put-u8-requires : tie.Need-put-u8-requires
-put-u8-requires c κs = search needs
-
-same-length : tie.Need-same-length
-same-length c = search needs
-
 returns : tie.Need-returns
 unfolding turbulenceBytes
 returns c =
@@ -45,12 +21,12 @@ pub put-turbulence-spec : {M : Type 1} → statement M
 put-turbulence-spec =
     tie.close
     (tie.spec
-    put-f32-requires
-    put-f32-requires-2
-    put-u32-requires
-    put-i32-requires
-    put-bool-requires
-    turbulence-kind-place-requires
-    put-u8-requires
-    same-length
+    (λ c κs. search needs)
+    (λ c κs. search needs)
+    (λ c κs. search needs)
+    (λ c κs. search needs)
+    (λ c κs. search needs)
+    (λ c κs. search needs)
+    (λ c κs. search needs)
+    (λ c. search needs)
     returns)

@@ -25,21 +25,6 @@ loop-holds c =
     let a = c .before .before .args in
     (search needs, search needs, rw (run-none (now (a .v))) (put-none (now (a .out)) (a .at)))
 
-mul-put-f32 : tie.Need-mul-put-f32 Inv-loop μ-loop
-mul-put-f32 c = search needs
-
-shared-slice-read-put-f32 : tie.Need-shared-slice-read-put-f32 Inv-loop μ-loop
-shared-slice-read-put-f32 c = search needs
-
-put-f32-requires : tie.Need-put-f32-requires Inv-loop μ-loop
-put-f32-requires c κs = search needs
-
-add-j : tie.Need-add-j Inv-loop μ-loop
-add-j c = search needs
-
-loop-less : tie.Need-loop-less Inv-loop μ-loop
-loop-less c = search needs
-
 loop-again : tie.Need-loop-again Inv-loop μ-loop
 loop-again c =
     let a = c .before .before .before .before .before .before .before .before .before .args in
@@ -47,9 +32,6 @@ loop-again c =
     let xs = now (a .v) in
     let h : j < length xs = omega arith in
     (search needs, search needs, rw (run-more xs j nan h) (c .before .before .before .before .before .before .loop .inv .2 then c .before .before .put-f32 .ensures counted omega arith))
-
-same-length : tie.Need-same-length Inv-loop μ-loop
-same-length c = search needs
 
 returns : tie.Need-returns Inv-loop μ-loop
 returns c =
@@ -67,11 +49,11 @@ put-value-run-spec =
     Inv-loop
     μ-loop
     loop-holds
-    mul-put-f32
-    shared-slice-read-put-f32
-    put-f32-requires
-    add-j
-    loop-less
+    (λ c. search needs)
+    (λ c. search needs)
+    (λ c κs. search needs)
+    (λ c. search needs)
+    (λ c. search needs)
     loop-again
-    same-length
+    (λ c. search needs)
     returns)

@@ -12,33 +12,6 @@ use borrow.Author.Needs.{needs}
 use Rattle.tree.proofs.transfer_function_size.Statement.{statement}
 use Rattle.tree.proofs.transfer_function_size.Tie as tie
 
-enum-told : tie.Need-enum-told
-enum-told c = search needs
-
-enum-known-v : tie.Need-enum-known-v
-enum-known-v c = search needs
-
-numbers-size-requires : tie.Need-numbers-size-requires
-numbers-size-requires c κs = search needs
-
-add-result : tie.Need-add-result
-add-result c = search needs
-
-enum-known-v-2 : tie.Need-enum-known-v-2
-enum-known-v-2 c = search needs
-
-numbers-size-requires-2 : tie.Need-numbers-size-requires-2
-numbers-size-requires-2 c κs = search needs
-
-add-result-2 : tie.Need-add-result-2
-add-result-2 c = search needs
-
-enum-told-2 : tie.Need-enum-told-2
-enum-told-2 c = search needs
-
-enum-told-3 : tie.Need-enum-told-3
-enum-told-3 c = search needs
-
 returns : tie.Need-returns
 returns c =
     let e0 = length-transferFunction (transferFunctionIs (now (c .before .before .before .args .s)) (c .before .before .before .args .v)) ∙ ap (λ (v : TransferFunction). transferFunctionSize (transferFunctionIs (now (c .before .before .before .args .s)) v)) (c .enum-told .given .1) in
@@ -70,15 +43,15 @@ pub transfer-function-size-spec : {M : Type 1} → statement M
 transfer-function-size-spec =
     tie.close
     (tie.spec
-    enum-told
-    enum-known-v
-    numbers-size-requires
-    add-result
-    enum-known-v-2
-    numbers-size-requires-2
-    add-result-2
-    enum-told-2
-    enum-told-3
+    (λ c. search needs)
+    (λ c. search needs)
+    (λ c κs. search needs)
+    (λ c. search needs)
+    (λ c. search needs)
+    (λ c κs. search needs)
+    (λ c. search needs)
+    (λ c. search needs)
+    (λ c. search needs)
     returns
     returns-2
     returns-3

@@ -6,21 +6,6 @@ use borrow.Author.Needs.{needs}
 use Rattle.units.proofs.filter_rect.Statement.{statement}
 use Rattle.units.proofs.filter_rect.Tie as tie
 
-resolve-x-requires : tie.Need-resolve-x-requires
-resolve-x-requires c κs = search needs
-
-resolve-y-requires : tie.Need-resolve-y-requires
-resolve-y-requires c κs = search needs
-
-resolve-width-requires : tie.Need-resolve-width-requires
-resolve-width-requires c κs = search needs
-
-resolve-height-requires : tie.Need-resolve-height-requires
-resolve-height-requires c κs = search needs
-
-from-xywh-requires : tie.Need-from-xywh-requires
-from-xywh-requires c κs = search needs
-
 returns : tie.Need-returns
 unfolding filterRectIn
 returns c = c .from-xywh .ensures ∙ same-size (c .before .before .before .before .resolve-x .ensures) (c .before .before .before .resolve-y .ensures) (c .before .before .resolve-width .ensures) (c .before .resolve-height .ensures)
@@ -29,9 +14,9 @@ pub filter-rect-spec : {M : Type 1} → statement M
 filter-rect-spec =
     tie.close
     (tie.spec
-    resolve-x-requires
-    resolve-y-requires
-    resolve-width-requires
-    resolve-height-requires
-    from-xywh-requires
+    (λ c κs. search needs)
+    (λ c κs. search needs)
+    (λ c κs. search needs)
+    (λ c κs. search needs)
+    (λ c κs. search needs)
     returns)

@@ -10,24 +10,6 @@ use borrow.Author.Needs.{needs}
 use Rattle.units.proofs.filter_region.Statement.{statement}
 use Rattle.units.proofs.filter_region.Tie as tie
 
-filter-units-requires : tie.Need-filter-units-requires
-filter-units-requires c κs = search needs
-
-convert-units-requires : tie.Need-convert-units-requires
-convert-units-requires c κs = search needs
-
-state-of-requires : tie.Need-state-of-requires
-state-of-requires c κs = search needs
-
-filter-rect-requires : tie.Need-filter-rect-requires
-filter-rect-requires c κs = search needs
-
-bbox-requires : tie.Need-bbox-requires
-bbox-requires c κs = search needs
-
-region-in-requires : tie.Need-region-in-requires
-region-in-requires c κs = search needs
-
 returns : tie.Need-returns
 unfolding filterRegionOf
 returns c =
@@ -38,10 +20,10 @@ pub filter-region-spec : {M : Type 1} → statement M
 filter-region-spec =
     tie.close
     (tie.spec
-    filter-units-requires
-    convert-units-requires
-    state-of-requires
-    filter-rect-requires
-    bbox-requires
-    region-in-requires
+    (λ c κs. search needs)
+    (λ c κs. search needs)
+    (λ c κs. search needs)
+    (λ c κs. search needs)
+    (λ c κs. search needs)
+    (λ c κs. search needs)
     returns)

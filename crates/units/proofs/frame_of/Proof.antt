@@ -8,18 +8,6 @@ use borrow.Author.Needs.{needs}
 use Rattle.units.proofs.frame_of.Statement.{statement}
 use Rattle.units.proofs.frame_of.Tie as tie
 
-primitive-units-requires : tie.Need-primitive-units-requires
-primitive-units-requires c κs = search needs
-
-convert-units-requires : tie.Need-convert-units-requires
-convert-units-requires c κs = search needs
-
-bbox-requires : tie.Need-bbox-requires
-bbox-requires c κs = search needs
-
-state-of-requires : tie.Need-state-of-requires
-state-of-requires c κs = search needs
-
 returns : tie.Need-returns
 returns c =
     let u = c .before .before .convert-units .ensures ∙ ap (λ (g : MaybeUnits). convertUnits g UserSpaceOnUse) (c .before .before .before .primitive-units .ensures) in
@@ -29,8 +17,8 @@ pub frame-of-spec : {M : Type 1} → statement M
 frame-of-spec =
     tie.close
     (tie.spec
-    primitive-units-requires
-    convert-units-requires
-    bbox-requires
-    state-of-requires
+    (λ c κs. search needs)
+    (λ c κs. search needs)
+    (λ c κs. search needs)
+    (λ c κs. search needs)
     returns)

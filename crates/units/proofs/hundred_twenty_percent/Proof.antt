@@ -3,8 +3,5 @@ use borrow.Author.Needs.{needs}
 use Rattle.units.proofs.hundred_twenty_percent.Statement.{statement}
 use Rattle.units.proofs.hundred_twenty_percent.Tie as tie
 
-returns : tie.Need-returns
-returns c = search needs
-
 pub hundred-twenty-percent-spec : {M : Type 1} → statement M
-hundred-twenty-percent-spec = tie.close (tie.spec returns)
+hundred-twenty-percent-spec = tie.close (tie.spec (λ c. search needs))

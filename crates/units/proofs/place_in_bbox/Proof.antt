@@ -3,15 +3,6 @@ use borrow.Author.Needs.{needs}
 use Rattle.units.proofs.place_in_bbox.Statement.{statement}
 use Rattle.units.proofs.place_in_bbox.Tie as tie
 
-bbox-transform-requires : tie.Need-bbox-transform-requires
-bbox-transform-requires c κs = search needs
-
-enum-known-placed : tie.Need-enum-known-placed
-enum-known-placed c = search needs
-
-enum-told : tie.Need-enum-told
-enum-told c = search needs
-
 returns : tie.Need-returns
 returns c = cc
 
@@ -20,4 +11,4 @@ returns-2 c = cc
 
 pub place-in-bbox-spec : {M : Type 1} → statement M
 place-in-bbox-spec =
-    tie.close (tie.spec bbox-transform-requires enum-known-placed enum-told returns returns-2)
+    tie.close (tie.spec (λ c κs. search needs) (λ c. search needs) (λ c. search needs) returns returns-2)

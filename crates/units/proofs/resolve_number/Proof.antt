@@ -4,18 +4,6 @@ use borrow.Author.Needs.{needs}
 use Rattle.units.proofs.resolve_number.Statement.{statement}
 use Rattle.units.proofs.resolve_number.Tie as tie
 
-enum-known-given : tie.Need-enum-known-given
-enum-known-given c = search needs
-
-convert-length-requires : tie.Need-convert-length-requires
-convert-length-requires c κs = search needs
-
-enum-told : tie.Need-enum-told
-enum-told c = search needs
-
-convert-length-requires-2 : tie.Need-convert-length-requires-2
-convert-length-requires-2 c κs = search needs
-
 returns : tie.Need-returns
 returns c = length-given (c .before .before .before .before .args .aid) (c .before .before .before .before .args .units) (c .before .before .before .before .args .state) (c .before .before .before .before .args .font-size) (c .convert-length .result) (c .before .before .before .before .args .def) (c .before .before .given .given .1) (c .convert-length .ensures)
 
@@ -26,9 +14,9 @@ pub resolve-number-spec : {M : Type 1} → statement M
 resolve-number-spec =
     tie.close
     (tie.spec
-    enum-known-given
-    convert-length-requires
-    enum-told
-    convert-length-requires-2
+    (λ c. search needs)
+    (λ c κs. search needs)
+    (λ c. search needs)
+    (λ c κs. search needs)
     returns
     returns-2)

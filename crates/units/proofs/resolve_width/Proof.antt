@@ -6,18 +6,6 @@ use borrow.Author.Needs.{needs}
 use Rattle.units.proofs.resolve_width.Statement.{statement}
 use Rattle.units.proofs.resolve_width.Tie as tie
 
-filter-width-requires : tie.Need-filter-width-requires
-filter-width-requires c κs = search needs
-
-filter-font-size-requires : tie.Need-filter-font-size-requires
-filter-font-size-requires c κs = search needs
-
-hundred-twenty-percent-requires : tie.Need-hundred-twenty-percent-requires
-hundred-twenty-percent-requires c κs = search needs
-
-resolve-number-requires : tie.Need-resolve-number-requires
-resolve-number-requires c κs = search needs
-
 returns : tie.Need-returns
 returns c = c .resolve-number .ensures ∙ same-number AId·Width (c .before .before .before .before .before .args .units) (c .before .before .before .before .before .args .state) (c .before .before .before .filter-width .ensures) (c .before .before .filter-font-size .ensures) (c .before .hundred-twenty-percent .ensures)
 
@@ -25,8 +13,8 @@ pub resolve-width-spec : {M : Type 1} → statement M
 resolve-width-spec =
     tie.close
     (tie.spec
-    filter-width-requires
-    filter-font-size-requires
-    hundred-twenty-percent-requires
-    resolve-number-requires
+    (λ c κs. search needs)
+    (λ c κs. search needs)
+    (λ c κs. search needs)
+    (λ c κs. search needs)
     returns)

@@ -6,18 +6,6 @@ use borrow.Author.Needs.{needs}
 use Rattle.units.proofs.resolve_x.Statement.{statement}
 use Rattle.units.proofs.resolve_x.Tie as tie
 
-filter-x-requires : tie.Need-filter-x-requires
-filter-x-requires c κs = search needs
-
-filter-font-size-requires : tie.Need-filter-font-size-requires
-filter-font-size-requires c κs = search needs
-
-minus-ten-percent-requires : tie.Need-minus-ten-percent-requires
-minus-ten-percent-requires c κs = search needs
-
-resolve-number-requires : tie.Need-resolve-number-requires
-resolve-number-requires c κs = search needs
-
 returns : tie.Need-returns
 returns c = c .resolve-number .ensures ∙ same-number AId·X (c .before .before .before .before .before .args .units) (c .before .before .before .before .before .args .state) (c .before .before .before .filter-x .ensures) (c .before .before .filter-font-size .ensures) (c .before .minus-ten-percent .ensures)
 
@@ -25,8 +13,8 @@ pub resolve-x-spec : {M : Type 1} → statement M
 resolve-x-spec =
     tie.close
     (tie.spec
-    filter-x-requires
-    filter-font-size-requires
-    minus-ten-percent-requires
-    resolve-number-requires
+    (λ c κs. search needs)
+    (λ c κs. search needs)
+    (λ c κs. search needs)
+    (λ c κs. search needs)
     returns)

@@ -6,18 +6,6 @@ use borrow.Author.Needs.{needs}
 use Rattle.units.proofs.resolve_y.Statement.{statement}
 use Rattle.units.proofs.resolve_y.Tie as tie
 
-filter-y-requires : tie.Need-filter-y-requires
-filter-y-requires c κs = search needs
-
-filter-font-size-requires : tie.Need-filter-font-size-requires
-filter-font-size-requires c κs = search needs
-
-minus-ten-percent-requires : tie.Need-minus-ten-percent-requires
-minus-ten-percent-requires c κs = search needs
-
-resolve-number-requires : tie.Need-resolve-number-requires
-resolve-number-requires c κs = search needs
-
 returns : tie.Need-returns
 returns c = c .resolve-number .ensures ∙ same-number AId·Y (c .before .before .before .before .before .args .units) (c .before .before .before .before .before .args .state) (c .before .before .before .filter-y .ensures) (c .before .before .filter-font-size .ensures) (c .before .minus-ten-percent .ensures)
 
@@ -25,8 +13,8 @@ pub resolve-y-spec : {M : Type 1} → statement M
 resolve-y-spec =
     tie.close
     (tie.spec
-    filter-y-requires
-    filter-font-size-requires
-    minus-ten-percent-requires
-    resolve-number-requires
+    (λ c κs. search needs)
+    (λ c κs. search needs)
+    (λ c κs. search needs)
+    (λ c κs. search needs)
     returns)

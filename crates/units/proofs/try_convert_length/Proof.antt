@@ -5,21 +5,6 @@ use borrow.Author.Needs.{needs}
 use Rattle.units.proofs.try_convert_length.Statement.{statement}
 use Rattle.units.proofs.try_convert_length.Tie as tie
 
-length-of-requires : tie.Need-length-of-requires
-length-of-requires c κs = search needs
-
-enum-known-found : tie.Need-enum-known-found
-enum-known-found c = search needs
-
-font-size-requires : tie.Need-font-size-requires
-font-size-requires c κs = search needs
-
-convert-length-requires : tie.Need-convert-length-requires
-convert-length-requires c κs = search needs
-
-enum-told : tie.Need-enum-told
-enum-told c = search needs
-
 returns : tie.Need-returns
 returns c =
     let a = c .before .before .before .before .before .before .before .args in
@@ -34,10 +19,10 @@ pub try-convert-length-spec : {M : Type 1} → statement M
 try-convert-length-spec =
     tie.close
     (tie.spec
-    length-of-requires
-    enum-known-found
-    font-size-requires
-    convert-length-requires
-    enum-told
+    (λ c κs. search needs)
+    (λ c. search needs)
+    (λ c κs. search needs)
+    (λ c κs. search needs)
+    (λ c. search needs)
     returns
     returns-2)

@@ -62,8 +62,5 @@ cast-result-2 c =
     let h : natAbs x ≤ 2147483648 = natAbs-le x (c .before .fits .x .sfits) in
     subst (λ (z : ℤ). T (nonNeg z) × Fits w64 (natAbs z)) (sym (read (c .before))) (not-below x (ap (λ (z : ℤ). ltZ z (pos 0)) (sym (read (c .before))) ∙ c .if1 .left), record { fits = omega arith })
 
-returns-2 : tie.Need-returns-2
-returns-2 c = search needs
-
 pub size-spec : {M : Type 1} → statement M
-size-spec = tie.close (tie.spec sub-result cast-result add-result returns cast-result-2 returns-2)
+size-spec = tie.close (tie.spec sub-result cast-result add-result returns cast-result-2 (λ c. search needs))

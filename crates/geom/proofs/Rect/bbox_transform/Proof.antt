@@ -12,21 +12,6 @@ renamed : (r b : Rect) (sx sy w h : Float) → sx ≡ widthOf b → sy ≡ heigh
     → ofSize (add binary32 (mul binary32 (r .left) sx) (b .left)) (add binary32 (mul binary32 (r .top) sy) (b .top)) (mul binary32 w sx) (mul binary32 h sy) ≡ placed r b
 renamed r b sx sy w h p q s t = rw (p, q, s, t)
 
-width-requires : tie.Need-width-requires
-width-requires c κs = search needs
-
-height-requires : tie.Need-height-requires
-height-requires c κs = search needs
-
-width-requires-2 : tie.Need-width-requires-2
-width-requires-2 c κs = search needs
-
-height-requires-2 : tie.Need-height-requires-2
-height-requires-2 c κs = search needs
-
-from-xywh-requires : tie.Need-from-xywh-requires
-from-xywh-requires c κs = search needs
-
 returns : tie.Need-returns
 returns c =
     let bbox = c .before .before .before .before .before .before .before in
@@ -38,9 +23,9 @@ pub bbox-transform-spec : {M : Type 1} → statement M
 bbox-transform-spec =
     tie.close
     (tie.spec
-    width-requires
-    height-requires
-    width-requires-2
-    height-requires-2
-    from-xywh-requires
+    (λ c κs. search needs)
+    (λ c κs. search needs)
+    (λ c κs. search needs)
+    (λ c κs. search needs)
+    (λ c κs. search needs)
     returns)

@@ -5,12 +5,6 @@ use Rattle.geom.specs.Geometry.{ofEdges}
 use Rattle.geom.proofs.Rect.from_ltrb.Statement.{statement}
 use Rattle.geom.proofs.Rect.from_ltrb.Tie as tie
 
-is-side-requires : tie.Need-is-side-requires
-is-side-requires c κs = search needs
-
-is-side-requires-2 : tie.Need-is-side-requires-2
-is-side-requires-2 c κs = search needs
-
 returns : tie.Need-returns
 unfolding ofEdges
 returns c = simp (sym (c .before .before .before .is-side .ensures) ∙ c .before .before .if1 .taken, sym (c .before .is-side2 .ensures) ∙ c .if2 .taken)
@@ -24,4 +18,4 @@ unfolding ofEdges
 returns-3 c = simp (sym (c .before .is-side .ensures) ∙ c .if1 .left)
 
 pub from-ltrb-spec : {M : Type 1} → statement M
-from-ltrb-spec = tie.close (tie.spec is-side-requires is-side-requires-2 returns returns-2 returns-3)
+from-ltrb-spec = tie.close (tie.spec (λ c κs. search needs) (λ c κs. search needs) returns returns-2 returns-3)

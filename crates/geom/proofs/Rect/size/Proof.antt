@@ -3,14 +3,8 @@ use borrow.Author.Needs.{needs}
 use Rattle.geom.proofs.Rect.size.Statement.{statement}
 use Rattle.geom.proofs.Rect.size.Tie as tie
 
-width-requires : tie.Need-width-requires
-width-requires c κs = search needs
-
-height-requires : tie.Need-height-requires
-height-requires c κs = search needs
-
 returns : tie.Need-returns
 returns c = cc
 
 pub size-spec : {M : Type 1} → statement M
-size-spec = tie.close (tie.spec width-requires height-requires returns)
+size-spec = tie.close (tie.spec (λ c κs. search needs) (λ c κs. search needs) returns)

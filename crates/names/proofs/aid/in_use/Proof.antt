@@ -7,12 +7,6 @@ use Rattle.names.specs.Ids.{attributesInUse}
 use Rattle.names.proofs.aid.in_use.Statement.{statement}
 use Rattle.names.proofs.aid.in_use.Tie as tie
 
-mul-result : tie.Need-mul-result
-mul-result c = search needs
-
-array-read-result : tie.Need-array-read-result
-array-read-result c = search needs
-
 returns : tie.Need-returns
 unfolding attributesInUse
 returns c = refl
@@ -22,4 +16,4 @@ unfolding attributesInUse
 returns-2 c = sym (List·getD-eq-default attributesInUse 0 {n = c .before .args .i} (search needs))
 
 pub in-use-spec : {M : Type 1} → statement M
-in-use-spec = tie.close (tie.spec mul-result array-read-result returns returns-2)
+in-use-spec = tie.close (tie.spec (λ c. search needs) (λ c. search needs) returns returns-2)

@@ -7,9 +7,6 @@ use Rattle.names.specs.Ids.{elementsInUse}
 use Rattle.names.proofs.eid.in_use.Statement.{statement}
 use Rattle.names.proofs.eid.in_use.Tie as tie
 
-array-read-result : tie.Need-array-read-result
-array-read-result c = search needs
-
 returns : tie.Need-returns
 unfolding elementsInUse
 returns c = refl
@@ -19,4 +16,4 @@ unfolding elementsInUse
 returns-2 c = sym (List·getD-eq-default elementsInUse 0 {n = c .before .args .i} (search needs))
 
 pub in-use-spec : {M : Type 1} → statement M
-in-use-spec = tie.close (tie.spec array-read-result returns returns-2)
+in-use-spec = tie.close (tie.spec (λ c. search needs) returns returns-2)
