@@ -1,0 +1,24 @@
+-- The numbers of document 01's table "When no list is given". Definitions only.
+use Prim.Native.Nat.{ℕ}
+use Rattle.answer.specs.declared.Refusal.{Refusal}
+use Rattle.answer.specs.declared.Refusal.the-variants.{TooLarge, Malformed, BadNumber, Image, NoRegion, Unrepresentable, BadFrequency, NoPrimitive, ShortOutput}
+
+abbrev pub refusalNumber : Refusal → ℕ
+-- "sheet over 65,536 bytes, or node count over 512"
+refusalNumber TooLarge = 1
+-- "bytes not in the layout"
+refusalNumber Malformed = 2
+-- "number not finite, as given or narrowed to f32", and the other numbers that the row names
+refusalNumber BadNumber = 3
+-- "feImage at depth 0"
+refusalNumber Image = 4
+-- "no filter rectangle, or its box is missing"
+refusalNumber NoRegion = 5
+-- "a placing makes no rectangle or a radius product isn't finite ..; or, for feDisplacementMap in box units, box width + height isn't finite"
+refusalNumber Unrepresentable = 6
+-- "base frequency positive in sign but not finite"
+refusalNumber BadFrequency = 7
+-- "no primitive"
+refusalNumber NoPrimitive = 8
+-- "output shorter than the list"
+refusalNumber ShortOutput = 9
