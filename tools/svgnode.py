@@ -12,20 +12,20 @@ def attribute(result, reader, means='r', uses=''):
 
 # the thin function, the covered function that it calls, and the function with plain parameters that calls it
 READERS = [
-    ('depth', 'depth_at', 'depth', dict(result=8, fact='r ≡ nodeFrom S P .depth', uses=NODE)),
-    ('tag_name', 'tag_at', 'tag', dict(result=8, fact='r ≡ nodeFrom S P .tag', uses=NODE)),
-    ('font_size', 'font_size_at', 'font_size', dict(result='f32', fact='r ≡ fontSizeOf (nodeFrom S P)', uses=NODE + OWN % ('Readers', 'fontSizeOf'))),
-    ('attribute_text', 'find_text', 'text_of', attribute('bits::MaybeText', 'textOf', 'maybeTextIs S r', 'use Rattle.bits.specs.Texts.{maybeTextIs}\n')),
-    ('attribute_number', 'find_number', 'number_of', attribute('svgtree::MaybeNumber', 'numberOf')),
-    ('attribute_numbers', 'find_numbers', 'numbers_of', attribute('svgtree::MaybeNumbers', 'numbersOf', 'maybeNumbersIs S r', OWN % ('Means', 'maybeNumbersIs'))),
-    ('attribute_length', 'find_length', 'length_of', attribute('svgtree::MaybeLength', 'lengthOf')),
-    ('attribute_color', 'find_color', 'color_of', attribute('svgtree::MaybeColor', 'colorOf')),
-    ('attribute_tries', 'find_tries', 'tries_of', attribute('svgtree::MaybeTries', 'triesOf', 'maybeTriesIs r', OWN % ('Means', 'maybeTriesIs'))),
+    ('depth', 'nodes/depth_at', 'depth', dict(result=8, fact='r ≡ nodeFrom S P .depth', uses=NODE)),
+    ('tag_name', 'nodes/tag_at', 'tag', dict(result=8, fact='r ≡ nodeFrom S P .tag', uses=NODE)),
+    ('font_size', 'nodes/font_size_at', 'font_size', dict(result='f32', fact='r ≡ fontSizeOf (nodeFrom S P)', uses=NODE + OWN % ('Readers', 'fontSizeOf'))),
+    ('attribute_text', 'values/find_text', 'text_of', attribute('bits::MaybeText', 'textOf', 'maybeTextIs S r', 'use Rattle.bits.specs.Texts.{maybeTextIs}\n')),
+    ('attribute_number', 'values/find_number', 'number_of', attribute('svgtree::MaybeNumber', 'numberOf')),
+    ('attribute_numbers', 'values/find_numbers', 'numbers_of', attribute('svgtree::MaybeNumbers', 'numbersOf', 'maybeNumbersIs S r', OWN % ('Means', 'maybeNumbersIs'))),
+    ('attribute_length', 'values/find_length', 'length_of', attribute('svgtree::MaybeLength', 'lengthOf')),
+    ('attribute_color', 'values/find_color', 'color_of', attribute('svgtree::MaybeColor', 'colorOf')),
+    ('attribute_tries', 'values/find_tries', 'tries_of', attribute('svgtree::MaybeTries', 'triesOf', 'maybeTriesIs r', OWN % ('Means', 'maybeTriesIs'))),
 ]
 
 functions = [
     dict(shape='new', name='SvgNode/new'),
-    dict(shape='get', name='SvgNode/get', callee='svgtree::offset_at', **OFFSET),
+    dict(shape='get', name='SvgNode/get', callee='svgtree::nodes/offset_at', **OFFSET),
     dict(shape='place', name='node_offset', make='SvgNode/get', **OFFSET),
 ]
 for thin, covered, over, contract in READERS:

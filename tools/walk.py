@@ -11,7 +11,7 @@ TABLE is a Python file that sets crate, struct, slice_field, place_field, width 
             thin   fn (S, numbers..) -> R               covered(s.slice, s.place, numbers..)
             over   fn (slice, place, numbers..) -> R    S::new(slice, place).thin(numbers..)
   name      the function; of a method, S/name
-  callee    the function called, CRATE::f for a covered one
+  callee    the function called; a covered one is CRATE::f, or CRATE::module/f
   make      the function that makes the struct, for place and over
   numbers   widths of the parameters after the struct or the place
   result    a width, 'f32', or CRATE::E, an enum
@@ -390,7 +390,7 @@ def get(f):
         assigns ! (agg ! {operands([position(1) + 3, position(3) + 3])}) {LOCAL} (init ! {position(0) + 3} refl (tt, ({SLICE_TYPED} .1, (record {{ fits = is .1 }}, tt)))) $
         returns ! (look ! {position(0) + 3} refl) $ {freed(3, 4)} $ by ! (exits r u e (refl, is .1))))))))))
 '''
-    covered = f['callee'].split('::')[-1]
+    covered = f['callee'].split('::')[-1].split('/')[-1]
     why = f'`{covered}` gives the place, and the struct is made of it and the slice, in the local of the result.'
     return why, f['uses'] + callee_uses(f['callee'], 'callee'), body + closing(f['name'], [('callee', f['callee'])], *parameters('slice', [width]))
 
@@ -504,7 +504,7 @@ module _ {GIVEN} (κ : Lft) (q : Share) (d : {struct}){bound(names, numbers)} wh
         land ! {LOCAL} (init ! {position(0) + 3} refl ({typed} r _ is .0)) $
         returns ! (look ! {position(0) + 3} refl) $ {freed(3, 4 + k)} $ by ! (exits r u e){')' * (8 + k)}
 '''
-    covered = f['callee'].split('::')[-1]
+    covered = f['callee'].split('::')[-1].split('/')[-1]
     why = f'The struct is taken apart, and `{covered}` is called on its slice and its place.'
     return why, f['uses'] + uses + callee_uses(f['callee'], 'callee'), body + closing(f['name'], [('callee', f['callee'])], *parameters('struct', numbers))
 

@@ -1,22 +1,14 @@
 -- An id that is larger than every listed id asks no kind. That no listed id is so large is a test that is computed.
 -- Assumes nothing.
-use mathlib.Core.Path.{_≡_, refl}
-use mathlib.Core.Bool.{Bool, true, false, cond, _&&_}
+use mathlib.Core.Path.{_≡_, refl, sym}
+use mathlib.Core.Bool.{Bool, true, false, _&&_}
 use mathlib.Core.List.{List, [], _∷_}
-use Prim.Native.Nat.{ℕ, _≤_}
+use Prim.Native.Nat.{ℕ, _+_, _≤_}
 use native.Mathlib.Omega.{arith}
-use lib.Dec.{T, eqb, ltb, ltb→lt}
-use borrow.Author.Tests.{ne-eqb}
-use Rattle.names.specs.Ids.{AId·COUNT}
-use Rattle.names.specs.Kinds.{Asking, among, kindIn, kindAt, onChild, onGrandchild}
-
-and-left : (a b : Bool) → T (a && b) → T a
-and-left true b t = tt
-and-left false b t = t
-
-and-right : (a b : Bool) → T (a && b) → T b
-and-right true b t = t
-and-right false b t = absurd t
+use lib.Dec.{T, ltb, ltb→lt}
+use borrow.Author.Tests.{ne-eqb, ltb-true, ltb-false}
+use Rattle.names.specs.Kinds.{Asking, among, kindIn}
+use Rattle.names.proofs.Table.{and-left, and-right, NoneOf, valueFrom, ranged}
 
 abbrev below : ℕ → List ℕ → Bool
 below n [] = true
@@ -40,11 +32,11 @@ module _ (n id : ℕ) (h : n ≤ id) where
   unlisted (a ∷ rest) t =
       simp (not-among (a .ids) (and-left (below n (a .ids)) (allBelow n rest) t), unlisted rest (and-right (below n (a .ids)) (allBelow n rest) t))
 
-either : (b : Bool) {x y z : ℕ} → x ≡ z → y ≡ z → cond b x y ≡ z
-either true p q = p
-either false p q = q
-
--- ids from the number of names on ask nothing
-pub beyond : (depth id : ℕ) → AId·COUNT ≤ id → kindAt depth id ≡ 0
-unfolding kindAt onChild onGrandchild
-beyond depth id h = either (eqb depth 0) (unlisted AId·COUNT id h onChild tt) (unlisted AId·COUNT id h onGrandchild tt)
+-- an id from i on that is no arm's key asks no kind, if none of the m ids from i on does and no listed id is as large as i + m
+pub ranged-on : (l : List Asking) (arms : List (List ℕ)) (x : ℕ) → NoneOf arms x → (i m : ℕ) → T (allBelow (i + m) l) → T (valueFrom (kindIn l) 0 arms i m) → i ≤ x
+    → 0 ≡ kindIn l x
+ranged-on l arms x none i m all t h = go (ltb x (i + m)) refl
+  where
+    go : (b : Bool) → ltb x (i + m) ≡ b → 0 ≡ kindIn l x
+    go true q = ranged (kindIn l) 0 arms x none i m t h (ltb-true x (i + m) q)
+    go false q = sym (unlisted (i + m) x (ltb-false x (i + m) q) l all)

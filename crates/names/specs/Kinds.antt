@@ -2,9 +2,10 @@
 -- attribute; `x` and `y` are lengths on a filter's child and numbers one level below; an id that filter.rs reads on no node of that depth has
 -- no place in a sheet, and neither have those that only feImage reads. Assumes nothing.
 use Prim.Native.Nat.{ℕ}
-use mathlib.Core.Bool.{Bool, true, false, cond, not, _&&_, _||_}
+use mathlib.Core.Bool.{Bool, false, cond, not, _&&_, _||_}
 use mathlib.Core.List.{List, [], _∷_}
 use lib.Dec.{eqb, leb}
+use Rattle.sheet_fields.specs.Fields.{Kind·Unreadable, Kind·Text, Kind·Number, Kind·Numbers, Kind·Length, Kind·Color, Kind·Tries}
 use Rattle.names.specs.Ids.{EId·COUNT, AId·ColorInterpolationFilters, AId·Result, AId·In, AId·In2, AId·Mode, AId·Type, AId·Operator}
 use Rattle.names.specs.Ids.{AId·EdgeMode, AId·PreserveAlpha, AId·XChannelSelector, AId·YChannelSelector, AId·StitchTiles, AId·K1}
 use Rattle.names.specs.Ids.{AId·K2, AId·K3, AId·K4, AId·Divisor, AId·Bias, AId·TargetX, AId·TargetY, AId·Scale, AId·FloodOpacity}
@@ -13,33 +14,6 @@ use Rattle.names.specs.Ids.{AId·NumOctaves, AId·Seed, AId·Values, AId
 use Rattle.names.specs.Ids.{AId·Width, AId·Height, AId·FloodColor, AId·LightingColor, AId·Color, AId·StdDeviation, AId·Order}
 use Rattle.names.specs.Ids.{AId·Slope, AId·Intercept, AId·Amplitude, AId·Exponent, AId·Offset, AId·Azimuth, AId·Elevation, AId·Z}
 use Rattle.names.specs.Ids.{AId·PointsAtX, AId·PointsAtY, AId·PointsAtZ, AId·LimitingConeAngle, AId·TableValues}
-
--- The kinds, as the sheet numbers them. Unreadable: the attribute is there, and is read as absent. Numbers: a list of f32. Color: red, green, blue,
--- alpha. Tries: what three tries at reading a number give.
-abbrev pub Kind·Unreadable : ℕ
-Kind·Unreadable = 0
-
-abbrev pub Kind·Text : ℕ
-Kind·Text = 1
-
-abbrev pub Kind·Number : ℕ
-Kind·Number = 2
-
-abbrev pub Kind·Numbers : ℕ
-Kind·Numbers = 3
-
-abbrev pub Kind·Length : ℕ
-Kind·Length = 4
-
-abbrev pub Kind·Color : ℕ
-Kind·Color = 5
-
-abbrev pub Kind·Tries : ℕ
-Kind·Tries = 6
-
--- the kinds in their order: the constants of the code are these, one by one (`kind::in_use`)
-unfoldable pub kinds : List ℕ
-kinds = Kind·Unreadable ∷ Kind·Text ∷ Kind·Number ∷ Kind·Numbers ∷ Kind·Length ∷ Kind·Color ∷ Kind·Tries ∷ []
 
 -- the ids that ask one kind of value
 pub record Asking : Type 0 where

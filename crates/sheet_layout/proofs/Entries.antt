@@ -8,10 +8,11 @@ use mathlib.Core.List.{List, [], _∷_, map}
 use mathlib.Core.Bool.{Bool, true, false, _&&_}
 use lib.Dec.{eqb, leb, ltb}
 use borrow.Author.Tests.{eq-eqb, ne-eqb, eqb-true, eqb-false, le-leb, lt-ltb, le-ltb, leb-true, leb-false}
-use Rattle.bits.specs.Bytes.{le16}
+use Rattle.sheet_fields.specs.Fields.{Node·Attributes}
 use Rattle.bits.proofs.Runs.{length-bytesFrom}
-use Rattle.svgtree.specs.Parse.{placesFrom}
-use Rattle.sheet_layout.specs.Tests.{all, rising, sum}
+use Rattle.svgtree.specs.Parse.{attributeId, attributeLength, valuePlace, nextPlace, placesFrom, attributesPlace}
+use Rattle.sheet_layout.specs.Tests.{rising, sum}
+use Rattle.field_tests.specs.Tests.{all}
 use Rattle.sheet_layout.specs.Records.{Entry, entryAt, entrySize}
 use Rattle.sheet_layout.specs.Layout.{entryOk, entriesOk}
 
@@ -51,7 +52,7 @@ rising-from (x ∷ l) =
 unfoldable pub looped : List ℕ → (depth end at n low : ℕ) → Bool
 looped s depth end at zero low = eqb at end
 looped s depth end at (suc n) low =
-    leb low (le16 s at) && entryOk depth (entryAt s at) && looped s depth end (at + 6 + le16 s (at + 4)) n (le16 s at + 1)
+    leb low (attributeId s at) && entryOk depth (entryAt s at) && looped s depth end (nextPlace s at) n (attributeId s at + 1)
 
 shuffle : (o a l r e : Bool) → (o && a && (l && r) && e) ≡ (l && o && (a && r && e))
 shuffle true a true r e = refl
@@ -63,9 +64,9 @@ shuffle false a false r e = refl
 abbrev entriesFrom : List ℕ → ℕ → ℕ → List Entry
 entriesFrom s at n = map (entryAt s) (placesFrom s at n)
 
-size-here : (s : List ℕ) (at k : ℕ) → at + (entrySize (entryAt s at) + k) ≡ at + 6 + le16 s (at + 4) + k
+size-here : (s : List ℕ) (at k : ℕ) → at + (entrySize (entryAt s at) + k) ≡ nextPlace s at + k
 unfolding entryAt
-size-here s at k = rw (length-bytesFrom s (at + 6) (le16 s (at + 4))) (omega arith)
+size-here s at k = rw (length-bytesFrom s (valuePlace at) (attributeLength s at)) (omega arith)
 
 looped-is : (s : List ℕ) (depth end at n low : ℕ)
     → (all (entryOk depth) (entriesFrom s at n)
@@ -75,22 +76,22 @@ looped-is : (s : List ℕ) (depth end at n low : ℕ)
 unfolding all risingFrom sum placesFrom looped entryAt
 looped-is s depth end at zero low = rw (add-zero at)
 looped-is s depth end at (suc n) low =
-    let next = at + 6 + le16 s (at + 4) in
+    let next = nextPlace s at in
     let l : List Entry = entriesFrom s next n in
     let e : at + (entrySize (entryAt s at) + sum (map entrySize l)) ≡ next + sum (map entrySize l) = size-here s at (sum (map entrySize l)) in
-    shuffle (entryOk depth (entryAt s at)) (all (entryOk depth) l) (leb low (le16 s at)) (risingFrom (le16 s at + 1) (map (λ e. e .id) l))
+    shuffle (entryOk depth (entryAt s at)) (all (entryOk depth) l) (leb low (attributeId s at)) (risingFrom (attributeId s at + 1) (map (λ e. e .id) l))
     (eqb (at + (entrySize (entryAt s at) + sum (map entrySize l))) end)
-    ∙ ap (λ (t : Bool). leb low (le16 s at) && entryOk depth (entryAt s at) && t)
-    (ap (λ (k : ℕ). all (entryOk depth) l && risingFrom (le16 s at + 1) (map (λ e. e .id) l) && eqb k end) e ∙ looped-is s depth end next n (le16 s at + 1))
+    ∙ ap (λ (t : Bool). leb low (attributeId s at) && entryOk depth (entryAt s at) && t)
+    (ap (λ (k : ℕ). all (entryOk depth) l && risingFrom (attributeId s at + 1) (map (λ e. e .id) l) && eqb k end) e ∙ looped-is s depth end next n (attributeId s at + 1))
 
 pub entries-looped : (s : List ℕ) (depth size node n : ℕ)
-    → entriesOk depth size (map (entryAt s) (placesFrom s (node + 8) n)) ≡ looped s depth (node + size) (node + 8) n 0
+    → entriesOk depth size (map (entryAt s) (placesFrom s (attributesPlace node) n)) ≡ looped s depth (node + size) (attributesPlace node) n 0
 unfolding entriesOk
 entries-looped s depth size node n =
-    let l : List Entry = entriesFrom s (node + 8) n in
+    let l : List Entry = entriesFrom s (attributesPlace node) n in
     let t = sum (map entrySize l) in
-    rw (rising-from (map (λ e. e .id) l), same-test (8 + t) size (node + 8 + t) (node + size) (λ h. omega arith) (λ h. omega arith))
-    (looped-is s depth (node + size) (node + 8) n 0)
+    rw (rising-from (map (λ e. e .id) l), same-test (Node·Attributes + t) size (attributesPlace node + t) (node + size) (λ h. omega arith) (λ h. omega arith))
+    (looped-is s depth (node + size) (attributesPlace node) n 0)
 
 module _ (s : List ℕ) (depth end at n low : ℕ) where
   pub looped-end : n ≡ 0 → looped s depth end at n low ≡ eqb at end
@@ -99,7 +100,7 @@ module _ (s : List ℕ) (depth end at n low : ℕ) where
 
   pub looped-step : 0 < n
       → looped s depth end at n low
-      ≡ (leb low (le16 s at) && entryOk depth (entryAt s at) && looped s depth end (at + 6 + le16 s (at + 4)) (n - 1) (le16 s at + 1))
+      ≡ (leb low (attributeId s at) && entryOk depth (entryAt s at) && looped s depth end (nextPlace s at) (n - 1) (attributeId s at + 1))
   unfolding looped
   looped-step h =
       let e : n ≡ suc (n - 1) = omega arith in

@@ -4,10 +4,9 @@ use native.Mathlib.Omega.{arith}
 use mathlib.Core.Path.{_≡_, ap}
 use mathlib.Core.List.{List, [], _∷_}
 use mathlib.Core.Bool.{Bool, true, cond, not, _&&_, _||_}
-use lib.ListN.{getD}
 use lib.Dec.{eqb}
-use Rattle.svgtree.specs.Parse.{pairOffset, pairLength, offsetOf}
-use Rattle.sheet_layout.specs.Tests.{all}
+use Rattle.svgtree.specs.Parse.{nodeDepth, nodeTag, pairOffset, pairLength, offsetOf}
+use Rattle.field_tests.specs.Tests.{all}
 use Rattle.sheet_layout.specs.Records.{recordAt, recordsFrom}
 use Rattle.sheet_layout.specs.Layout.{touch, recordOk, depthsOk}
 
@@ -43,8 +42,8 @@ module _ (s : List ℕ) (i n : ℕ) where
 
   pub depths-step : (t : Bool) → i < n
       → depthsOk t (recordsFrom s i (n - i))
-      ≡ ((eqb (getD s (offsetOf s i) 0) 0 || t)
-      && depthsOk (cond (eqb (getD s (offsetOf s i) 0) 0) (not (eqb (getD s (offsetOf s i + 1) 0) 0)) t) (recordsFrom s (i + 1) (n - (i + 1))))
+      ≡ ((eqb (nodeDepth s (offsetOf s i)) 0 || t)
+      && depthsOk (cond (eqb (nodeDepth s (offsetOf s i)) 0) (not (eqb (nodeTag s (offsetOf s i)) 0)) t) (recordsFrom s (i + 1) (n - (i + 1))))
   unfolding depthsOk recordAt
   depths-step t h = ap (depthsOk t) (records-step s i n h)
 

@@ -1,5 +1,5 @@
 -- Refusal 2, "bytes not in the layout": document 01, "The sheet and the list", a rule a line. Definitions only.
-use Prim.Native.Nat.{ℕ, _+_, _*_, _/_, _%_}
+use Prim.Native.Nat.{ℕ, _+_, _/_, _%_}
 use mathlib.Core.List.{List, [], _∷_, map}
 use mathlib.Core.Bool.{Bool, true, false, cond, not, _&&_, _||_}
 use lib.ListN.{getD, length}
@@ -8,34 +8,35 @@ use Rattle.bits.specs.Bytes.{bytesFrom, same}
 use Rattle.bits.specs.Utf8.{utf8}
 use Rattle.bits.specs.Words.{word}
 use Rattle.names.specs.Ids.{AId·LightingColor}
-use Rattle.names.specs.Kinds.{Kind·Unreadable, Kind·Text, Kind·Number, Kind·Numbers, Kind·Length, Kind·Color, Kind·Tries, kindAllowed, tagOk}
-use Rattle.svgtree.specs.Parse.{countOf}
-use Rattle.sheet_layout.specs.Tests.{all, zeros, rising, sum}
+use Rattle.names.specs.Kinds.{kindAllowed, tagOk}
+use Rattle.sheet_fields.specs.Fields.{Header·FilterUnits, Header·PrimitiveUnits, Header·BoxPresent, Header·Zero, Header·BoxX, Header·BoxSize, Header·X, Header·Y, Header·Width, Header·Height}
+use Rattle.sheet_fields.specs.Fields.{Node·Attributes, Kind·Unreadable, Kind·Text, Kind·Number, Kind·Numbers, Kind·Length, Kind·Color, Kind·Tries}
+use Rattle.sheet_fields.specs.Fields.{Size·TextMost, Size·Number, Size·NumbersMost, Size·Length, Size·Color, Size·Tries, Marked·Number, Marked·NumberSize, Tries·Second, Tries·Third}
+use Rattle.sheet_fields.specs.Fields.{Space·Absent, Unit·Percent, Unit·Absent}
+use Rattle.svgtree.specs.Parse.{countOf, pairPlace}
+use Rattle.sheet_layout.specs.Tests.{rising, sum}
+use Rattle.field_tests.specs.Tests.{all, zeros, markedOk}
 use Rattle.sheet_layout.specs.Records.{Entry, entrySize, NodeRecord, recordsFrom}
-
--- what is marked present by 1 or absent by 0: zero bits if absent
-unfoldable pub markedOk : ℕ → List ℕ → Bool
-markedOk mark bits = eqb mark 1 || (eqb mark 0 && zeros bits)
 
 -- "Units: 0 none .. 9 percent; in the header 255 with zero bits is absent"
 unfoldable pub headerLengthOk : List ℕ → ℕ → Bool
-headerLengthOk s at = leb (getD s at 0) 9 || (eqb (getD s at 0) 255 && zeros (bytesFrom s (at + 1) 8))
+headerLengthOk s at = leb (getD s at 0) Unit·Percent || (eqb (getD s at 0) Unit·Absent && zeros (bytesFrom s (at + Marked·Number) Marked·NumberSize))
 
 -- "36 four lengths x, y, width, height, each a unit byte and an f64"
 unfoldable pub headerLengthsOk : List ℕ → Bool
 headerLengthsOk s =
-    headerLengthOk s 36
-    && headerLengthOk s 45
-    && headerLengthOk s 54
-    && headerLengthOk s 63
+    headerLengthOk s Header·X
+    && headerLengthOk s Header·Y
+    && headerLengthOk s Header·Width
+    && headerLengthOk s Header·Height
 
 -- "byte 0 filterUnits, 1 primitiveUnits (0 .., 1 .., 2 absent ..); 2 box present (0, 1); 3 zero; 4 box .. (zero bits if absent)"
 unfoldable pub headerOk : List ℕ → Bool
 headerOk s =
-    leb (getD s 0 0) 2
-    && leb (getD s 1 0) 2
-    && markedOk (getD s 2 0) (bytesFrom s 4 16)
-    && eqb (getD s 3 0) 0
+    leb (getD s Header·FilterUnits 0) Space·Absent
+    && leb (getD s Header·PrimitiveUnits 0) Space·Absent
+    && markedOk (getD s Header·BoxPresent 0) (bytesFrom s Header·BoxX Header·BoxSize)
+    && eqb (getD s Header·Zero 0) 0
     && headerLengthsOk s
 
 -- "Records touch": each begins where the one before it ends, the first at `at`, and the last ends at `end`
@@ -45,28 +46,28 @@ touch at end (r ∷ rest) = eqb (r .offset) at && touch (at + r .size) end rest
 
 -- "each 1 or 0 and an f64 (zero bits after 0 ..)"
 unfoldable pub tryOk : List ℕ → ℕ → Bool
-tryOk b at = markedOk (getD b at 0) (bytesFrom b (at + 1) 8)
+tryOk b at = markedOk (getD b at 0) (bytesFrom b (at + Marked·Number) Marked·NumberSize)
 
 -- "exactly three tries, .. no 1 after a 0"
 unfoldable pub triesOk : List ℕ → Bool
 triesOk b =
     tryOk b 0
-    && tryOk b 9
-    && tryOk b 18
-    && leb (getD b 9 0) (getD b 0 0)
-    && leb (getD b 18 0) (getD b 9 0)
+    && tryOk b Tries·Second
+    && tryOk b Tries·Third
+    && leb (getD b Tries·Second 0) (getD b 0 0)
+    && leb (getD b Tries·Third 0) (getD b Tries·Second 0)
 
 -- the bytes of a value of a kind: "0 unreadable, empty ..; 1 text, UTF-8, to 255 bytes; 2 f32; 3 f32 list, to 1,024; 4 length; 5 colour (red,
--- green, blue, alpha); 6 exactly three tries"
+-- green, blue, alpha); 6 exactly three tries". The crate limits neither texts nor lists
 unfoldable pub bytesOk : ℕ → List ℕ → Bool
 bytesOk kind b =
     cond (eqb kind Kind·Unreadable) (eqb (length b) 0)
-    (cond (eqb kind Kind·Text) (leb (length b) 255 && utf8 b)
-    (cond (eqb kind Kind·Number) (eqb (length b) 4)
-    (cond (eqb kind Kind·Numbers) (eqb (length b % 4) 0 && leb (length b / 4) 1024)
-    (cond (eqb kind Kind·Length) (eqb (length b) 9 && leb (getD b 0 0) 9)
-    (cond (eqb kind Kind·Color) (eqb (length b) 4)
-    (cond (eqb kind Kind·Tries) (eqb (length b) 27 && triesOk b) false))))))
+    (cond (eqb kind Kind·Text) (leb (length b) Size·TextMost && utf8 b)
+    (cond (eqb kind Kind·Number) (eqb (length b) Size·Number)
+    (cond (eqb kind Kind·Numbers) (eqb (length b % Size·Number) 0 && leb (length b / Size·Number) Size·NumbersMost)
+    (cond (eqb kind Kind·Length) (eqb (length b) Size·Length && leb (getD b 0 0) Unit·Percent)
+    (cond (eqb kind Kind·Color) (eqb (length b) Size·Color)
+    (cond (eqb kind Kind·Tries) (eqb (length b) Size·Tries && triesOk b) false))))))
 
 -- "lighting-color is kind 5, kind 0 or the text `currentColor`"
 unfoldable pub wordOk : (id kind : ℕ) → List ℕ → Bool
@@ -85,7 +86,7 @@ unfoldable pub entriesOk : (depth size : ℕ) → List Entry → Bool
 entriesOk depth size es =
     all (entryOk depth) es
     && rising (map (λ e. e .id) es)
-    && eqb (8 + sum (map entrySize es)) size
+    && eqb (Node·Attributes + sum (map entrySize es)) size
 
 -- "Node: one byte each of depth (0 .., 1 ..), tag (0 none, else 1 + place in `EId` ..), attribute count (0 for tag 0) and zero; then font size
 -- f32; attributes"
@@ -112,6 +113,6 @@ depthsOk tagged (r ∷ rest) = (eqb (r .depth) 0 || tagged) && depthsOk (taggedA
 unfoldable pub layoutOk : List ℕ → Bool
 layoutOk s =
     headerOk s
-    && touch (74 + 8 * countOf s) (length s) (recordsFrom s 0 (countOf s))
+    && touch (pairPlace (countOf s)) (length s) (recordsFrom s 0 (countOf s))
     && all recordOk (recordsFrom s 0 (countOf s))
     && depthsOk false (recordsFrom s 0 (countOf s))

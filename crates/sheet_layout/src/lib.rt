@@ -2,59 +2,44 @@
 ghost use mathlib.Core.Path.{_≡_};
 ghost use mathlib.Core.List.{map};
 ghost use mathlib.Core.Bool.{false, not, cond, _&&_, _||_};
-ghost use Prim.Native.Nat.{_+_, _*_, _^_, _<_};
+ghost use Prim.Native.Nat.{_+_, _^_, _<_};
 ghost use lib.ListN.{length, getD};
 ghost use lib.Dec.{eqb, leb};
 ghost use Rattle.bits.specs.Bytes.{bytesFrom};
-ghost use Rattle.svgtree.specs.Parse.{placesFrom, countOf};
+ghost use Rattle.sheet_fields.specs.Fields.{Kind·Text, Kind·Numbers, Kind·Length, Kind·Tries, Tries·Second, Tries·Third};
+ghost use Rattle.svgtree.specs.Parse.{placesFrom, nodeDepth, nodeTag, attributeCount, nodeZero, attributesPlace, countOf, pairPlace};
 ghost use Rattle.svgtree.specs.Means.{HeadAt};
-ghost use Rattle.sheet_layout.specs.Tests.{all, zeros};
+ghost use Rattle.field_tests.specs.Tests.{all};
 ghost use Rattle.sheet_layout.specs.Records.{entryAt, recordAt, recordsFrom};
-ghost use Rattle.sheet_layout.specs.Layout.{markedOk, headerLengthOk, headerLengthsOk, headerOk, touch, tryOk, bytesOk, wordOk, entryOk, entriesOk, headOk, recordOk, depthsOk, layoutOk};
+ghost use Rattle.sheet_layout.specs.Layout.{headerLengthOk, headerLengthsOk, headerOk, touch, tryOk, bytesOk, wordOk, entryOk, entriesOk, headOk, recordOk, depthsOk, layoutOk};
 use bits::byte;
-use bits::get32;
 use bits::is_utf8;
 use bits::run_is;
 use bits::wide16;
 use bits::wide32;
+use field_tests::is_zero;
+use field_tests::marked_ok;
 use names::aid;
 use names::kind_allowed;
 use names::tag_ok;
+use sheet_fields::attribute;
+use sheet_fields::header;
+use sheet_fields::kind;
+use sheet_fields::marked;
+use sheet_fields::node;
+use sheet_fields::size;
+use sheet_fields::space;
+use sheet_fields::tries;
+use sheet_fields::unit;
 use svgtree::Head;
-use svgtree::head_at;
-use svgtree::node_count;
+use svgtree::attributes::head_at;
+use svgtree::attributes::next_place;
+use svgtree::attributes::value_place;
 use svgtree::node_offset;
-
-// Whether n bytes from a place on are zero.
-fn is_zero(s: &[u8], from: usize, n: u8) -> bool
-    requires { ⌜ from < 2 ^ 40 ⌝ }
-    ensures { λ r. ⌜ r ≡ zeros (bytesFrom (now (s .entry)) from n) ⌝ }
-{
-    let mut at = from;
-    let mut left = n;
-    while 0 < left {
-        if byte(s, at) != 0 {
-            return false;
-        }
-        at += 1;
-        left -= 1;
-    }
-    true
-}
-
-// A mark, and the n bytes that are zero where it says absent.
-pub fn marked_ok(s: &[u8], mark: u8, from: usize, n: u8) -> bool
-    requires { ⌜ from < 2 ^ 40 ⌝ }
-    ensures { λ r. ⌜ r ≡ markedOk mark (bytesFrom (now (s .entry)) from n) ⌝ }
-{
-    if mark == 1 {
-        return true;
-    }
-    if mark != 0 {
-        return false;
-    }
-    is_zero(s, from, n)
-}
+use svgtree::nodes::node_count;
+use svgtree::nodes::pair_length;
+use svgtree::nodes::pair_offset;
+use svgtree::nodes::pair_place;
 
 // The header.
 
@@ -62,44 +47,49 @@ fn header_length_ok(s: &[u8], at: usize) -> bool
     requires { ⌜ at < 256 ⌝ }
     ensures { λ r. ⌜ r ≡ headerLengthOk (now (s .entry)) at ⌝ }
 {
-    let unit = byte(s, at);
-    if unit <= 9 {
+    let first = byte(s, at);
+    if first <= unit::PERCENT {
         return true;
     }
-    if unit != 255 {
+    if first != unit::ABSENT {
         return false;
     }
-    is_zero(s, at + 1, 8)
+    is_zero(s, at + marked::NUMBER, marked::NUMBER_SIZE)
 }
 
 fn header_lengths_ok(s: &[u8]) -> bool
     ensures { λ r. ⌜ r ≡ headerLengthsOk (now (s .entry)) ⌝ }
 {
-    if !header_length_ok(s, 36) {
+    if !header_length_ok(s, header::X) {
         return false;
     }
-    if !header_length_ok(s, 45) {
+    if !header_length_ok(s, header::Y) {
         return false;
     }
-    if !header_length_ok(s, 54) {
+    if !header_length_ok(s, header::WIDTH) {
         return false;
     }
-    header_length_ok(s, 63)
+    header_length_ok(s, header::HEIGHT)
 }
 
 fn header_ok(s: &[u8]) -> bool
     ensures { λ r. ⌜ r ≡ headerOk (now (s .entry)) ⌝ }
 {
-    if 2 < byte(s, 0) {
+    if space::ABSENT < byte(s, header::FILTER_UNITS) {
         return false;
     }
-    if 2 < byte(s, 1) {
+    if space::ABSENT < byte(s, header::PRIMITIVE_UNITS) {
         return false;
     }
-    if !marked_ok(s, byte(s, 2), 4, 16) {
+    if !marked_ok(
+        s,
+        byte(s, header::BOX_PRESENT),
+        header::BOX_X,
+        header::BOX_SIZE,
+    ) {
         return false;
     }
-    if byte(s, 3) != 0 {
+    if byte(s, header::ZERO) != 0 {
         return false;
     }
     header_lengths_ok(s)
@@ -107,16 +97,16 @@ fn header_ok(s: &[u8]) -> bool
 
 // Whether the records touch, from the end of the pairs to the end of the sheet.
 fn records_touch(s: &[u8]) -> bool
-    ensures { λ r. ⌜ r ≡ touch (74 + 8 * countOf (now (s .entry))) (length (now (s .entry))) (recordsFrom (now (s .entry)) 0 (countOf (now (s .entry)))) ⌝ }
+    ensures { λ r. ⌜ r ≡ touch (pairPlace (countOf (now (s .entry)))) (length (now (s .entry))) (recordsFrom (now (s .entry)) 0 (countOf (now (s .entry)))) ⌝ }
 {
     let n = node_count(s);
-    let mut at = 74 + 8 * wide16(n);
+    let mut at = pair_place(n);
     let mut i = 0;
     while i < n {
-        if wide32(get32(s, 74 + 8 * wide16(i))) != at {
+        if wide32(pair_offset(s, i)) != at {
             return false;
         }
-        at = at + wide32(get32(s, 78 + 8 * wide16(i)));
+        at = at + wide32(pair_length(s, i));
         i += 1;
     }
     at == s.len()
@@ -125,64 +115,64 @@ fn records_touch(s: &[u8]) -> bool
 // Attributes.
 
 fn text_ok(s: &[u8], at: u32, len: u16) -> bool
-    ensures { λ r. ⌜ r ≡ bytesOk 1 (bytesFrom (now (s .entry)) at len) ⌝ }
+    ensures { λ r. ⌜ r ≡ bytesOk Kind·Text (bytesFrom (now (s .entry)) at len) ⌝ }
 {
-    if 255 < len {
+    if size::TEXT_MOST < len {
         return false;
     }
     is_utf8(s, at, len)
 }
 
 fn numbers_ok(s: &[u8], at: u32, len: u16) -> bool
-    ensures { λ r. ⌜ r ≡ bytesOk 3 (bytesFrom (now (s .entry)) at len) ⌝ }
+    ensures { λ r. ⌜ r ≡ bytesOk Kind·Numbers (bytesFrom (now (s .entry)) at len) ⌝ }
 {
-    if len % 4 != 0 {
+    if len % size::NUMBER != 0 {
         return false;
     }
-    len / 4 <= 1024
+    len / size::NUMBER <= size::NUMBERS_MOST
 }
 
 fn length_ok(s: &[u8], at: u32, len: u16) -> bool
-    ensures { λ r. ⌜ r ≡ bytesOk 4 (bytesFrom (now (s .entry)) at len) ⌝ }
+    ensures { λ r. ⌜ r ≡ bytesOk Kind·Length (bytesFrom (now (s .entry)) at len) ⌝ }
 {
-    if len != 9 {
+    if len != size::LENGTH {
         return false;
     }
-    byte(s, wide32(at)) <= 9
+    byte(s, wide32(at)) <= unit::PERCENT
 }
 
 fn try_ok(s: &[u8], at: usize) -> bool
     requires { ⌜ at < 2 ^ 39 ⌝ }
     ensures { λ r. ⌜ r ≡ tryOk (now (s .entry)) at ⌝ }
 {
-    marked_ok(s, byte(s, at), at + 1, 8)
+    marked_ok(s, byte(s, at), at + marked::NUMBER, marked::NUMBER_SIZE)
 }
 
 // Whether a try that succeeded does not follow one that failed.
 fn not_after_failed(s: &[u8], at: usize) -> bool
     requires { ⌜ at < 2 ^ 39 ⌝ }
-    ensures { λ r. ⌜ r ≡ (leb (getD (now (s .entry)) (at + 9) 0) (getD (now (s .entry)) at 0) && leb (getD (now (s .entry)) (at + 18) 0) (getD (now (s .entry)) (at + 9) 0)) ⌝ }
+    ensures { λ r. ⌜ r ≡ (leb (getD (now (s .entry)) (at + Tries·Second) 0) (getD (now (s .entry)) at 0) && leb (getD (now (s .entry)) (at + Tries·Third) 0) (getD (now (s .entry)) (at + Tries·Second) 0)) ⌝ }
 {
-    if byte(s, at) < byte(s, at + 9) {
+    if byte(s, at) < byte(s, at + tries::SECOND) {
         return false;
     }
-    byte(s, at + 18) <= byte(s, at + 9)
+    byte(s, at + tries::THIRD) <= byte(s, at + tries::SECOND)
 }
 
 fn tries_ok(s: &[u8], at: u32, len: u16) -> bool
-    ensures { λ r. ⌜ r ≡ bytesOk 6 (bytesFrom (now (s .entry)) at len) ⌝ }
+    ensures { λ r. ⌜ r ≡ bytesOk Kind·Tries (bytesFrom (now (s .entry)) at len) ⌝ }
 {
-    if len != 27 {
+    if len != size::TRIES {
         return false;
     }
     let from = wide32(at);
     if !try_ok(s, from) {
         return false;
     }
-    if !try_ok(s, from + 9) {
+    if !try_ok(s, from + tries::SECOND) {
         return false;
     }
-    if !try_ok(s, from + 18) {
+    if !try_ok(s, from + tries::THIRD) {
         return false;
     }
     not_after_failed(s, from)
@@ -193,13 +183,13 @@ fn bytes_ok(s: &[u8], kind: u8, at: u32, len: u16) -> bool
     ensures { λ r. ⌜ r ≡ bytesOk kind (bytesFrom (now (s .entry)) at len) ⌝ }
 {
     match kind {
-        0 => len == 0,
-        1 => text_ok(s, at, len),
-        2 => len == 4,
-        3 => numbers_ok(s, at, len),
-        4 => length_ok(s, at, len),
-        5 => len == 4,
-        6 => tries_ok(s, at, len),
+        kind::UNREADABLE => len == 0,
+        kind::TEXT => text_ok(s, at, len),
+        kind::NUMBER => len == size::NUMBER,
+        kind::NUMBERS => numbers_ok(s, at, len),
+        kind::LENGTH => length_ok(s, at, len),
+        kind::COLOR => len == size::COLOR,
+        kind::TRIES => tries_ok(s, at, len),
         _ => false,
     }
 }
@@ -211,7 +201,7 @@ fn word_ok(s: &[u8], id: u16, kind: u8, at: u32, len: u16) -> bool
     if id != aid::LIGHTING_COLOR {
         return true;
     }
-    if kind != 1 {
+    if kind != kind::TEXT {
         return true;
     }
     if len != 12 {
@@ -224,7 +214,7 @@ fn entry_ok(s: &[u8], depth: u8, at: usize, head: Head) -> bool
     requires { ⌜ (at < 2 ^ 31) × HeadAt (now s) at head ⌝ }
     ensures { λ r. ⌜ r ≡ entryOk depth (entryAt (now (s .entry)) at) ⌝ }
 {
-    if byte(s, at + 3) != 0 {
+    if byte(s, at + attribute::ZERO) != 0 {
         return false;
     }
     let id = head.id;
@@ -232,7 +222,7 @@ fn entry_ok(s: &[u8], depth: u8, at: usize, head: Head) -> bool
     if !kind_allowed(depth, id, kind) {
         return false;
     }
-    let from = (at + 6) as u32;
+    let from = value_place(at) as u32;
     let len = head.len;
     if !bytes_ok(s, kind, from, len) {
         return false;
@@ -240,13 +230,13 @@ fn entry_ok(s: &[u8], depth: u8, at: usize, head: Head) -> bool
     word_ok(s, id, kind, from, len)
 }
 
-// The n attributes of the node at `node`, whose record has `size` bytes; `low` is the least id that the next may have.
-fn entries_ok(s: &[u8], depth: u8, node: usize, n: u8, size: usize) -> bool
-    requires { ⌜ node < 65536 ⌝ }
+// The n attributes of the node at `start`, whose record has `size` bytes; `low` is the least id that the next may have.
+fn entries_ok(s: &[u8], depth: u8, start: usize, n: u8, size: usize) -> bool
+    requires { ⌜ start < 65536 ⌝ }
     requires { ⌜ size < 2 ^ 33 ⌝ }
-    ensures { λ r. ⌜ r ≡ entriesOk depth size (map (entryAt (now (s .entry))) (placesFrom (now (s .entry)) (node + 8) n)) ⌝ }
+    ensures { λ r. ⌜ r ≡ entriesOk depth size (map (entryAt (now (s .entry))) (placesFrom (now (s .entry)) (attributesPlace start) n)) ⌝ }
 {
-    let mut at = node + 8;
+    let mut at = start + node::ATTRIBUTES;
     let mut left = n;
     let mut low = 0;
     while 0 < left {
@@ -258,10 +248,10 @@ fn entries_ok(s: &[u8], depth: u8, node: usize, n: u8, size: usize) -> bool
             return false;
         }
         low = wide16(head.id) + 1;
-        at = at + 6 + wide16(head.len);
+        at = next_place(at, head.len);
         left -= 1;
     }
-    at == node + size
+    at == start + size
 }
 
 // Nodes.
@@ -277,19 +267,19 @@ fn count_ok(tag: u8, count: u8) -> bool
 
 fn head_ok(s: &[u8], at: usize) -> bool
     requires { ⌜ at < 65536 ⌝ }
-    ensures { λ r. ⌜ r ≡ headOk (getD (now (s .entry)) at 0) (getD (now (s .entry)) (at + 1) 0) (getD (now (s .entry)) (at + 2) 0) (getD (now (s .entry)) (at + 3) 0) ⌝ }
+    ensures { λ r. ⌜ r ≡ headOk (nodeDepth (now (s .entry)) at) (nodeTag (now (s .entry)) at) (attributeCount (now (s .entry)) at) (nodeZero (now (s .entry)) at) ⌝ }
 {
     if 1 < byte(s, at) {
         return false;
     }
-    let tag = byte(s, at + 1);
+    let tag = byte(s, at + node::TAG);
     if !tag_ok(tag) {
         return false;
     }
-    if !count_ok(tag, byte(s, at + 2)) {
+    if !count_ok(tag, byte(s, at + node::ATTRIBUTE_COUNT)) {
         return false;
     }
-    byte(s, at + 3) == 0
+    byte(s, at + node::ZERO) == 0
 }
 
 fn record_ok(s: &[u8], i: u16) -> bool
@@ -299,8 +289,14 @@ fn record_ok(s: &[u8], i: u16) -> bool
     if !head_ok(s, at) {
         return false;
     }
-    let size = wide32(get32(s, 78 + 8 * wide16(i)));
-    entries_ok(s, byte(s, at), at, byte(s, at + 2), size)
+    let size = wide32(pair_length(s, i));
+    entries_ok(
+        s,
+        byte(s, at),
+        at,
+        byte(s, at + node::ATTRIBUTE_COUNT),
+        size,
+    )
 }
 
 fn records_ok(s: &[u8]) -> bool
@@ -348,7 +344,7 @@ fn depths_ok(s: &[u8]) -> bool
         if !depth_ok(depth, tagged) {
             return false;
         }
-        tagged = tagged_after(depth, byte(s, at + 1), tagged);
+        tagged = tagged_after(depth, byte(s, at + node::TAG), tagged);
         i += 1;
     }
     true

@@ -6,7 +6,8 @@ use native.Mathlib.Omega.{arith}
 use borrow.Author.Needs.{needs}
 use borrow.Author.Tests.{eq-eqb, ne-eqb}
 use Rattle.names.specs.Ids.{AId·LightingColor}
-use Rattle.names.specs.Kinds.{Kind·Unreadable, Kind·Text, kindAllowed}
+use Rattle.names.specs.Kinds.{kindAllowed}
+use Rattle.sheet_fields.specs.Fields.{Kind·Unreadable, Kind·Text}
 use Rattle.names.proofs.kind_allowed.Statement.{statement}
 use Rattle.names.proofs.kind_allowed.Tie as tie
 

@@ -26,18 +26,30 @@ loop-holds c =
 
 returns : tie.Need-returns Inv-loop μ-loop
 returns c =
-    let l = c .before .before .before .before .before .before .loop in
-    let s = now (c .before .before .before .before .before .before .before .before .before .args .s) in
-    let d = rw (c .before .before .byte .ensures, c .before .before .before .wide16 .ensures .0, c .before .before .before .before .node-offset .ensures) at (c .before .depth-ok .ensures) in
+    let at-byte = c .before .before in
+    let at-wide16 = at-byte .before in
+    let at-node-offset = at-wide16 .before in
+    let at-loop = at-node-offset .before .before in
+    let at-start = at-loop .before .before .before in
+    let l = at-loop .loop in
+    let s = now (at-start .args .s) in
+    let d = rw (at-byte .byte .ensures, at-wide16 .wide16 .ensures .0, at-node-offset .node-offset .ensures) at (c .before .depth-ok .ensures) in
     sym (l .inv .2 ∙ depths-step s (l .i) _ (l .tagged) (omega arith) ∙ simp (sym d ∙ not-true _ (c .if1 .taken)))
 
 loop-again : tie.Need-loop-again Inv-loop μ-loop
 loop-again c =
-    let l = c .before .before .before .before .before .before .before .before .loop in
-    let s = now (c .before .before .before .before .before .before .before .before .before .before .before .args .s) in
-    let d = rw (c .before .before .before .before .byte .ensures, c .before .before .before .before .before .wide16 .ensures .0, c .before .before .before .before .before .before .node-offset .ensures) at (c .before .before .before .depth-ok .ensures) in
-    let t = rw (c .before .before .before .before .byte .ensures, c .before .byte2 .ensures, c .before .before .before .before .before .wide16 .ensures .0, c .before .before .before .before .before .before .node-offset .ensures) at (c .tagged-after .ensures) in
-    (search needs, search needs, l .inv .2 ∙ depths-step s (l .i) _ (l .tagged) (omega arith) ∙ simp (sym d ∙ not-false _ (c .before .before .if1 .left), sym t))
+    let at-if1 = c .before .before in
+    let at-depth-ok = at-if1 .before in
+    let at-byte = at-depth-ok .before in
+    let at-wide16 = at-byte .before in
+    let at-node-offset = at-wide16 .before in
+    let at-loop = at-node-offset .before .before in
+    let at-start = at-loop .before .before .before in
+    let l = at-loop .loop in
+    let s = now (at-start .args .s) in
+    let d = rw (at-byte .byte .ensures, at-wide16 .wide16 .ensures .0, at-node-offset .node-offset .ensures) at (at-depth-ok .depth-ok .ensures) in
+    let t = rw (at-byte .byte .ensures, c .before .byte2 .ensures, at-wide16 .wide16 .ensures .0, at-node-offset .node-offset .ensures) at (c .tagged-after .ensures) in
+    (search needs, search needs, l .inv .2 ∙ depths-step s (l .i) _ (l .tagged) (omega arith) ∙ simp (sym d ∙ not-false _ (at-if1 .if1 .left), sym t))
 
 returns-2 : tie.Need-returns-2 Inv-loop μ-loop
 returns-2 c =

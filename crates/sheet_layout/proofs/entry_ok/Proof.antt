@@ -14,25 +14,31 @@ returns c = simp (ne-eqb _ _ (λ e. c .if1 .taken (c .before .byte .ensures ∙ 
 returns-2 : tie.Need-returns-2
 unfolding entryOk entryAt
 returns-2 c =
-    let h = c .before .before .before .before .before .pre .1 in
+    let zero = c .before .before in
+    let h = zero .before .before .before .pre .1 in
     let k = rw (h .id, h .kind) at (c .before .kind-allowed .ensures) in
-    simp (eq-eqb _ _ (sym (c .before .before .before .byte .ensures) ∙ c .before .before .if1 .left), sym k ∙ not-true _ (c .if2 .taken))
+    simp (eq-eqb _ _ (sym (zero .before .byte .ensures) ∙ zero .if1 .left), sym k ∙ not-true _ (c .if2 .taken))
 
 returns-3 : tie.Need-returns-3
 unfolding entryOk entryAt
 returns-3 c =
-    let h = c .before .before .before .before .before .before .before .pre .1 in
-    let k = rw (h .id, h .kind) at (c .before .before .before .kind-allowed .ensures) in
-    let b = rw (h .kind, h .len) at (c .before .bytes-ok .ensures) in
-    simp (eq-eqb _ _ (sym (c .before .before .before .before .before .byte .ensures) ∙ c .before .before .before .before .if1 .left), sym k ∙ not-false _ (c .before .before .if2 .left), sym b ∙ not-true _ (c .if3 .taken))
+    let asked = c .before .before .before in
+    let zero = asked .before .before in
+    let h = zero .before .before .before .pre .1 in
+    let k = rw (h .id, h .kind) at (asked .before .kind-allowed .ensures) in
+    let b = rw (h .kind, c .before .before .value-place .ensures, h .len) at (c .before .bytes-ok .ensures) in
+    simp (eq-eqb _ _ (sym (zero .before .byte .ensures) ∙ zero .if1 .left), sym k ∙ not-false _ (asked .if2 .left), sym b ∙ not-true _ (c .if3 .taken))
 
 returns-4 : tie.Need-returns-4
 unfolding entryOk entryAt
 returns-4 c =
-    let h = c .before .before .before .before .before .before .before .before .pre .1 in
-    let k = rw (h .id, h .kind) at (c .before .before .before .before .kind-allowed .ensures) in
-    let b = rw (h .kind, h .len) at (c .before .before .bytes-ok .ensures) in
-    simp (eq-eqb _ _ (sym (c .before .before .before .before .before .before .byte .ensures) ∙ c .before .before .before .before .before .if1 .left), sym k ∙ not-false _ (c .before .before .before .if2 .left), sym b ∙ not-false _ (c .before .if3 .left)) (rw (h .id, h .kind, h .len) at (c .word-ok .ensures))
+    let placed = c .before .before .before in
+    let asked = placed .before in
+    let zero = asked .before .before in
+    let h = zero .before .before .before .pre .1 in
+    let k = rw (h .id, h .kind) at (asked .before .kind-allowed .ensures) in
+    let b = rw (h .kind, placed .value-place .ensures, h .len) at (c .before .before .bytes-ok .ensures) in
+    simp (eq-eqb _ _ (sym (zero .before .byte .ensures) ∙ zero .if1 .left), sym k ∙ not-false _ (asked .if2 .left), sym b ∙ not-false _ (c .before .if3 .left)) (rw (h .id, h .kind, placed .value-place .ensures, h .len) at (c .word-ok .ensures))
 
 pub entry-ok-spec : {M : Type 1} → statement M
 entry-ok-spec =
@@ -43,7 +49,7 @@ entry-ok-spec =
     returns
     (λ c κs. search needs)
     returns-2
-    (λ c. search needs)
+    (λ c κs. search needs)
     (λ c. search needs)
     (λ c κs. search needs)
     returns-3

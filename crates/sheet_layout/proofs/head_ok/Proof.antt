@@ -19,25 +19,38 @@ returns c =
 returns-2 : tie.Need-returns-2
 unfolding headOk
 returns-2 c =
-    let h : getD (now (c .before .before .before .before .before .before .args .s)) (c .before .before .before .before .before .before .args .at) 0 ≤ 1 = omega arith in
-    let t = rw (c .before .before .byte2 .ensures) at (c .before .tag-ok .ensures) in
+    let at-byte2 = c .before .before in
+    let at-start = at-byte2 .before .before .before .before in
+    let h : getD (now (at-start .args .s)) (at-start .args .at) 0 ≤ 1 = omega arith in
+    let t = rw (at-byte2 .byte2 .ensures) at (c .before .tag-ok .ensures) in
     simp (le-leb _ _ h, sym t ∙ not-true _ (c .if2 .taken))
 
 returns-3 : tie.Need-returns-3
 unfolding headOk
 returns-3 c =
-    let h : getD (now (c .before .before .before .before .before .before .before .before .before .args .s)) (c .before .before .before .before .before .before .before .before .before .args .at) 0 ≤ 1 = omega arith in
-    let t = rw (c .before .before .before .before .before .byte2 .ensures) at (c .before .before .before .before .tag-ok .ensures) in
-    let k = rw (c .before .before .before .before .before .byte2 .ensures, c .before .before .byte3 .ensures) at (c .before .count-ok .ensures) in
-    simp (le-leb _ _ h, sym t ∙ not-false _ (c .before .before .before .if2 .left), sym k ∙ not-true _ (c .if3 .taken))
+    let at-byte3 = c .before .before in
+    let at-if2 = at-byte3 .before in
+    let at-tag-ok = at-if2 .before in
+    let at-byte2 = at-tag-ok .before in
+    let at-start = at-byte2 .before .before .before .before in
+    let h : getD (now (at-start .args .s)) (at-start .args .at) 0 ≤ 1 = omega arith in
+    let t = rw (at-byte2 .byte2 .ensures) at (at-tag-ok .tag-ok .ensures) in
+    let k = rw (at-byte2 .byte2 .ensures, at-byte3 .byte3 .ensures) at (c .before .count-ok .ensures) in
+    simp (le-leb _ _ h, sym t ∙ not-false _ (at-if2 .if2 .left), sym k ∙ not-true _ (c .if3 .taken))
 
 returns-4 : tie.Need-returns-4
 unfolding headOk
 returns-4 c =
-    let h : getD (now (c .before .before .before .before .before .before .before .before .before .before .args .s)) (c .before .before .before .before .before .before .before .before .before .before .args .at) 0 ≤ 1 = omega arith in
-    let t = rw (c .before .before .before .before .before .before .byte2 .ensures) at (c .before .before .before .before .before .tag-ok .ensures) in
-    let k = rw (c .before .before .before .before .before .before .byte2 .ensures, c .before .before .before .byte3 .ensures) at (c .before .before .count-ok .ensures) in
-    simp (le-leb _ _ h, sym t ∙ not-false _ (c .before .before .before .before .if2 .left), sym k ∙ not-false _ (c .before .if3 .left)) (cc)
+    let at-count-ok = c .before .before in
+    let at-byte3 = at-count-ok .before in
+    let at-if2 = at-byte3 .before in
+    let at-tag-ok = at-if2 .before in
+    let at-byte2 = at-tag-ok .before in
+    let at-start = at-byte2 .before .before .before .before in
+    let h : getD (now (at-start .args .s)) (at-start .args .at) 0 ≤ 1 = omega arith in
+    let t = rw (at-byte2 .byte2 .ensures) at (at-tag-ok .tag-ok .ensures) in
+    let k = rw (at-byte2 .byte2 .ensures, at-byte3 .byte3 .ensures) at (at-count-ok .count-ok .ensures) in
+    simp (le-leb _ _ h, sym t ∙ not-false _ (at-if2 .if2 .left), sym k ∙ not-false _ (c .before .if3 .left)) (cc)
 
 pub head-ok-spec : {M : Type 1} → statement M
 head-ok-spec =

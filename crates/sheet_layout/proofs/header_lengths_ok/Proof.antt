@@ -12,15 +12,38 @@ returns c = simp (sym (c .before .header-length-ok .ensures) ∙ not-true _ (c .
 
 returns-2 : tie.Need-returns-2
 unfolding headerLengthsOk
-returns-2 c = simp (sym (c .before .before .before .header-length-ok .ensures) ∙ not-false _ (c .before .before .if1 .left), sym (c .before .header-length-ok2 .ensures) ∙ not-true _ (c .if2 .taken))
+returns-2 c =
+    simp (
+      sym (c .before .before .before .header-length-ok .ensures) ∙ not-false _ (c .before .before .if1 .left),
+      sym (c .before .header-length-ok2 .ensures) ∙ not-true _ (c .if2 .taken),
+    )
 
 returns-3 : tie.Need-returns-3
 unfolding headerLengthsOk
-returns-3 c = simp (sym (c .before .before .before .before .before .header-length-ok .ensures) ∙ not-false _ (c .before .before .before .before .if1 .left), sym (c .before .before .before .header-length-ok2 .ensures) ∙ not-false _ (c .before .before .if2 .left), sym (c .before .header-length-ok3 .ensures) ∙ not-true _ (c .if3 .taken))
+returns-3 c =
+    let at-if2 = c .before .before in
+    let at-header-length-ok2 = at-if2 .before in
+    let at-if1 = at-header-length-ok2 .before in
+    let at-header-length-ok = at-if1 .before in
+    simp (
+      sym (at-header-length-ok .header-length-ok .ensures) ∙ not-false _ (at-if1 .if1 .left),
+      sym (at-header-length-ok2 .header-length-ok2 .ensures) ∙ not-false _ (at-if2 .if2 .left),
+      sym (c .before .header-length-ok3 .ensures) ∙ not-true _ (c .if3 .taken),
+    )
 
 returns-4 : tie.Need-returns-4
 unfolding headerLengthsOk
-returns-4 c = simp (sym (c .before .before .before .before .before .before .header-length-ok .ensures) ∙ not-false _ (c .before .before .before .before .before .if1 .left), sym (c .before .before .before .before .header-length-ok2 .ensures) ∙ not-false _ (c .before .before .before .if2 .left), sym (c .before .before .header-length-ok3 .ensures) ∙ not-false _ (c .before .if3 .left)) (c .header-length-ok4 .ensures)
+returns-4 c =
+    let at-header-length-ok3 = c .before .before in
+    let at-if2 = at-header-length-ok3 .before in
+    let at-header-length-ok2 = at-if2 .before in
+    let at-if1 = at-header-length-ok2 .before in
+    let at-header-length-ok = at-if1 .before in
+    simp (
+      sym (at-header-length-ok .header-length-ok .ensures) ∙ not-false _ (at-if1 .if1 .left),
+      sym (at-header-length-ok2 .header-length-ok2 .ensures) ∙ not-false _ (at-if2 .if2 .left),
+      sym (at-header-length-ok3 .header-length-ok3 .ensures) ∙ not-false _ (c .before .if3 .left),
+    ) (c .header-length-ok4 .ensures)
 
 pub header-lengths-ok-spec : {M : Type 1} → statement M
 header-lengths-ok-spec =

@@ -18,9 +18,11 @@ returns c = simp (length-bytesFrom, ne-eqb _ _ (c .if1 .taken))
 returns-2 : tie.Need-returns-2
 unfolding bytesOk
 returns-2 c =
-    let a = c .before .before .before .before .args in
+    let at-if1 = c .before .before in
+    let at-start = at-if1 .before .before in
+    let a = at-start .args in
     let h : 0 < a .len = omega arith in
-    simp (length-bytesFrom, eq-eqb _ _ (c .before .before .if1 .left), byte-in (now (a .s)) (a .at) (a .len) 0 h, add-zero (a .at)) (cc)
+    simp (length-bytesFrom, eq-eqb _ _ (at-if1 .if1 .left), byte-in (now (a .s)) (a .at) (a .len) 0 h, add-zero (a .at)) (cc)
 
 pub length-ok-spec : {M : Type 1} → statement M
 length-ok-spec = tie.close (tie.spec returns (λ c κs. search needs) (λ c κs. search needs) returns-2)

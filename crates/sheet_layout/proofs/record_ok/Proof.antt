@@ -1,4 +1,4 @@
--- The node is read at its offset, and its attributes begin eight bytes on. Assumes nothing.
+-- The node is read at its offset, and its attributes begin behind its head. Assumes nothing.
 use Rattle.sheet_layout.specs.Records.{recordAt}
 use Rattle.sheet_layout.specs.Layout.{recordOk}
 use mathlib.Core.Path.{_∙_, sym}
@@ -16,8 +16,9 @@ returns c =
 returns-2 : tie.Need-returns-2
 unfolding recordOk recordAt
 returns-2 c =
-    let h = rw (c .before .before .before .before .before .before .before .before .wide16 .ensures .0, c .before .before .before .before .before .before .before .before .before .node-offset .ensures) at (c .before .before .before .before .before .before .before .head-ok .ensures) in
-    simp (sym h ∙ not-false _ (c .before .before .before .before .before .before .if1 .left)) (cc)
+    let passed = c .before .before .before .before .before in
+    let h = rw (passed .before .before .wide16 .ensures .0, passed .before .before .before .node-offset .ensures) at (passed .before .head-ok .ensures) in
+    simp (sym h ∙ not-false _ (passed .if1 .left)) (cc)
 
 pub record-ok-spec : {M : Type 1} → statement M
 record-ok-spec =
@@ -27,9 +28,6 @@ record-ok-spec =
     (λ c κs. search needs)
     (λ c κs. search needs)
     returns
-    (λ c κs. search needs)
-    (λ c. search needs)
-    (λ c. search needs)
     (λ c κs. search needs)
     (λ c κs. search needs)
     (λ c κs. search needs)

@@ -4,7 +4,7 @@ use mathlib.Core.Path.{_∙_, _≡_, ap, sym}
 use Rattle.sheet_layout.specs.Layout.{recordOk}
 use Rattle.sheet_layout.proofs.Following.{records-ok-end, records-ok-step}
 use Rattle.sheet_layout.specs.Records.{recordsFrom}
-use Rattle.sheet_layout.specs.Tests.{all}
+use Rattle.field_tests.specs.Tests.{all}
 use borrow.Author.Needs.{needs}
 use native.Mathlib.Omega.{arith}
 use Rattle.svgtree.specs.Parse.{countOf}
@@ -26,14 +26,18 @@ loop-holds c =
 
 returns : tie.Need-returns Inv-loop μ-loop
 returns c =
-    let l = c .before .before .before .loop in
-    let s = now (c .before .before .before .before .before .before .args .s) in
+    let at-loop = c .before .before .before in
+    let at-start = at-loop .before .before .before in
+    let l = at-loop .loop in
+    let s = now (at-start .args .s) in
     sym (l .inv .2 ∙ records-ok-step s (l .i) _ (omega arith) ∙ simp (sym (c .before .record-ok .ensures) ∙ not-true _ (c .if1 .taken)))
 
 loop-again : tie.Need-loop-again Inv-loop μ-loop
 loop-again c =
-    let l = c .before .before .before .loop in
-    let s = now (c .before .before .before .before .before .before .args .s) in
+    let at-loop = c .before .before .before in
+    let at-start = at-loop .before .before .before in
+    let l = at-loop .loop in
+    let s = now (at-start .args .s) in
     (search needs, search needs, l .inv .2 ∙ records-ok-step s (l .i) _ (omega arith) ∙ simp (sym (c .before .record-ok .ensures) ∙ not-false _ (c .if1 .left)))
 
 returns-2 : tie.Need-returns-2 Inv-loop μ-loop

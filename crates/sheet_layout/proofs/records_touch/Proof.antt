@@ -1,7 +1,7 @@
 -- Invariant: all records touch exactly if those that are left do, from the end of the last one on. Assumes nothing.
 use Prim.Native.Nat.{_*_, _+_, _-_, _≤_, ℕ}
 use mathlib.Core.Path.{_∙_, _≡_, ap₂, sym}
-use Rattle.svgtree.specs.Parse.{countOf, pairLength, pairOffset}
+use Rattle.svgtree.specs.Parse.{countOf, pairPlace, pairLength, pairOffset}
 use Rattle.sheet_layout.specs.Records.{recordsFrom}
 use Rattle.sheet_layout.specs.Layout.{touch}
 use Rattle.sheet_layout.proofs.Following.{touch-end, touch-step}
@@ -14,7 +14,7 @@ use Rattle.sheet_layout.proofs.records_touch.Statement.{statement}
 use Rattle.sheet_layout.proofs.records_touch.Tie as tie
 
 abbrev Inv-loop : tie.InvT-loop
-Inv-loop s n at₀ i₀ at i = (i ≤ n) × (n ≡ countOf s) × (at ≤ 600000 + i * 4294967296) × (touch (74 + 8 * countOf s) (length s) (recordsFrom s 0 (countOf s)) ≡ touch at (length s) (recordsFrom s i (n - i)))
+Inv-loop s n at₀ i₀ at i = (i ≤ n) × (n ≡ countOf s) × (at ≤ 600000 + i * 4294967296) × (touch (pairPlace (countOf s)) (length s) (recordsFrom s 0 (countOf s)) ≡ touch at (length s) (recordsFrom s i (n - i)))
 
 abbrev μ-loop : tie.MeasureT-loop
 μ-loop s n at₀ i₀ at i = n - i
@@ -23,30 +23,35 @@ loop-holds : tie.Need-loop-holds Inv-loop μ-loop
 loop-holds c =
     let s = now (c .before .before .before .args .s) in
     let e : countOf s ≡ c .before .node-count .result - 0 = omega arith in
-    let f : 74 + 8 * countOf s ≡ 74 + 8 * c .wide16 .result = omega arith in
+    let f : pairPlace (countOf s) ≡ c .pair-place .result = omega arith in
     (search needs, search needs, search needs, ap₂ (λ (a k : ℕ). touch a (length s) (recordsFrom s 0 k)) f e)
 
 returns : tie.Need-returns Inv-loop μ-loop
 returns c =
-    let l = c .before .before .before .before .before .loop in
-    let s = now (c .before .before .before .before .before .before .before .before .before .args .s) in
-    let p = rw (c .before .before .before .wide162 .ensures .0) at (c .before .before .get32 .ensures) in
-    sym (l .inv .3 ∙ touch-step s (l .i) (c .before .before .before .before .before .before .before .node-count .result) (l .at) (length s) (omega arith) ∙ simp (ne-eqb (pairOffset s (l .i)) (l .at) (λ q. c .if1 .taken (c .before .wide32 .ensures .0 ∙ p ∙ q))))
+    let at-pair-offset = c .before .before in
+    let at-loop = at-pair-offset .before .before in
+    let l = at-loop .loop in
+    let counted = at-loop .before .before in
+    let s = now (counted .before .before .args .s) in
+    sym (l .inv .3 ∙ touch-step s (l .i) (counted .node-count .result) (l .at) (length s) (omega arith) ∙ simp (ne-eqb (pairOffset s (l .i)) (l .at) (λ q. c .if1 .taken (c .before .wide32 .ensures .0 ∙ at-pair-offset .pair-offset .ensures ∙ q))))
 
 loop-again : tie.Need-loop-again Inv-loop μ-loop
 loop-again c =
-    let l = c .before .before .before .before .before .before .before .before .loop in
-    let s = now (c .before .before .before .before .before .before .before .before .before .before .before .before .args .s) in
-    let e : pairOffset s (l .i) ≡ l .at = sym (c .before .before .before .before .wide32 .ensures .0 ∙ rw (c .before .before .before .before .before .before .wide162 .ensures .0) at (c .before .before .before .before .before .get32 .ensures)) ∙ c .before .before .before .if1 .left in
-    let q : pairLength s (l .i) ≡ c .wide322 .result = sym (c .wide322 .ensures .0 ∙ rw (c .before .before .wide163 .ensures .0) at (c .before .get322 .ensures)) in
-    (search needs, search needs, search needs, l .inv .3 ∙ touch-step s (l .i) (c .before .before .before .before .before .before .before .before .before .before .node-count .result) (l .at) (length s) (omega arith) ∙ rw (eq-eqb (pairOffset s (l .i)) (l .at) e, q))
+    let compared = c .before .before in
+    let l = compared .before .before .before .before .loop in
+    let counted = compared .before .before .before .before .before .before in
+    let s = now (counted .before .before .args .s) in
+    let e : pairOffset s (l .i) ≡ l .at = sym (compared .before .wide32 .ensures .0 ∙ compared .before .before .pair-offset .ensures) ∙ compared .if1 .left in
+    let q : pairLength s (l .i) ≡ c .wide322 .result = sym (c .wide322 .ensures .0 ∙ c .before .pair-length .ensures) in
+    (search needs, search needs, search needs, l .inv .3 ∙ touch-step s (l .i) (counted .node-count .result) (l .at) (length s) (omega arith) ∙ rw (eq-eqb (pairOffset s (l .i)) (l .at) e, q))
 
 returns-2 : tie.Need-returns-2 Inv-loop μ-loop
 returns-2 c =
     let l = c .before .loop in
-    let s = now (c .before .before .before .before .before .args .s) in
-    let z : c .before .before .before .node-count .result - l .i ≡ 0 = omega arith in
-    sym (l .inv .3 ∙ touch-end s (l .i) (c .before .before .before .node-count .result) (l .at) (length s) z)
+    let counted = c .before .before .before in
+    let s = now (counted .before .before .args .s) in
+    let z : counted .node-count .result - l .i ≡ 0 = omega arith in
+    sym (l .inv .3 ∙ touch-end s (l .i) (counted .node-count .result) (l .at) (length s) z)
 
 pub records-touch-spec : {M : Type 1} → statement M
 records-touch-spec =
@@ -56,18 +61,10 @@ records-touch-spec =
     μ-loop
     (λ c κs. search needs)
     (λ c κs. search needs)
-    (λ c. search needs)
-    (λ c. search needs)
     loop-holds
-    (λ c κs. search needs)
-    (λ c. search needs)
-    (λ c. search needs)
     (λ c κs. search needs)
     (λ c κs. search needs)
     returns
-    (λ c κs. search needs)
-    (λ c. search needs)
-    (λ c. search needs)
     (λ c κs. search needs)
     (λ c κs. search needs)
     (λ c. search needs)

@@ -21,7 +21,11 @@ returns-3 c = simp (eq-eqb _ _ (c .before .before .if1 .left), eq-eqb _ _ (c .be
 
 returns-4 : tie.Need-returns-4
 unfolding wordOk
-returns-4 c = simp (eq-eqb _ _ (c .before .before .before .before .before .if1 .left), eq-eqb _ _ (c .before .before .before .before .if2 .left), c .before .before .before .if3 .left) (cc)
+returns-4 c =
+    let at-if3 = c .before .before .before in
+    let at-if2 = at-if3 .before in
+    let at-if1 = at-if2 .before in
+    simp (eq-eqb _ _ (at-if1 .if1 .left), eq-eqb _ _ (at-if2 .if2 .left), at-if3 .if3 .left) (cc)
 
 pub word-ok-spec : {M : Type 1} → statement M
 word-ok-spec =

@@ -1,0 +1,2 @@
+pub mod Finiteness
+pub mod Zeros

@@ -1,0 +1,20 @@
+-- Each byte of the colour is the byte at its place. Assumes nothing.
+use borrow.Author.Needs.{needs}
+use Rattle.svgtree.proofs.values.color_from.Statement.{statement}
+use Rattle.svgtree.proofs.values.color_from.Tie as tie
+
+returns : tie.Need-returns
+returns c = cc
+
+pub color-from-spec : {M : Type 1} → statement M
+color-from-spec =
+    tie.close
+    (tie.spec
+    (λ c κs. search needs)
+    (λ c. search needs)
+    (λ c κs. search needs)
+    (λ c. search needs)
+    (λ c κs. search needs)
+    (λ c. search needs)
+    (λ c κs. search needs)
+    returns)
