@@ -1,9 +1,9 @@
 -- What the conversions of the filter elements share: an attribute's number or its default, and whether its text is a word. Definitions only.
 use Prim.Native.Nat.{ℕ}
-use mathlib.Core.Bool.{Bool, true, false}
+use mathlib.Core.Bool.{Bool, false}
 use mathlib.Core.List.{List}
 use mathlib.Core.Option.{Option, none, some}
-use lib.Ieee.{Float, binary32, ofBits}
+use lib.Ieee.{Float}
 use Rattle.bits.specs.Bytes.{same}
 use Rattle.svgtree.specs.Values.{Node}
 use Rattle.svgtree.specs.Readers.{numberOf, orElse}
@@ -16,10 +16,3 @@ numberOr n id d = orElse (numberOf n id) d
 abbrev pub isWord : Option (List ℕ) → List ℕ → Bool
 isWord none w = false
 isWord (some t) w = same t w
-
--- 1 and 2, the defaults of most attributes that are not 0
-abbrev pub one : Float
-one = ofBits binary32 0x3f80_0000
-
-abbrev pub two : Float
-two = ofBits binary32 0x4000_0000

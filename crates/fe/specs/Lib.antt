@@ -1,1 +1,5 @@
 pub mod Attributes
+pub mod Keywords
+pub mod Colors
+pub mod ColorInterpolation
+pub mod Pairs

@@ -2,12 +2,15 @@
 ghost use mathlib.Core.Path.{_≡_};
 ghost use Rattle.bits.specs.Texts.{maybeTextIs};
 ghost use Rattle.svgtree.specs.Parse.{nodeFrom};
-ghost use Rattle.fe.specs.Attributes.{numberOr, isWord};
 ghost use Rattle.svgtree.specs.Readers.{orElse};
+ghost use Rattle.fe.specs.Attributes.{numberOr, isWord};
 use bits::MaybeText;
 use bits::text_is;
 use svgtree::MaybeNumber;
 use svgtree::number_of;
+
+pub mod color_interpolation;
+pub mod pair;
 
 // The number, or the default where it is absent: Rust's `unwrap_or`.
 pub fn or_else(x: MaybeNumber, default: f32) -> f32

@@ -1,5 +1,2 @@
 -- the laws that belong to no one function
-pub mod Numbers
-pub mod Opacity
-pub mod Alpha
 pub mod Ranges

@@ -1,21 +1,22 @@
 -- The numbers of these kinds are in their ranges, for every node and every scale that is finite. Assumes nothing.
 use lib.Dec.{T, leb}
-use lib.Ieee.{Float, binary32, ofBits, mul, le}
-use lib.Ieee.Scale.{finite}
+use lib.Ieee.{Float, binary32, ofBits, mul}
 use Rattle.names.specs.Ids.{AId·StdDeviation, AId·FloodOpacity, AId·Dx, AId·Dy}
-use Rattle.num.specs.Narrowed.{plusZero}
+use Rattle.num.specs.Constants.{plusZero, one, two}
+use Rattle.num.specs.Numbers.{IsFinite}
 use Rattle.num.specs.Sign.{positive, opacityIn}
 use Rattle.num.proofs.Finite.{zero-finite}
 use Rattle.geom.specs.declared.Size.{Size}
 use Rattle.svgtree.specs.Values.{Node}
 use Rattle.svgtree.specs.Readers.{triesOf}
 use Rattle.fe.specs.Attributes.{numberOr}
-use Rattle.fe_blur.specs.Deviations.{deviation, numbersOrDefault, gaussianBlurOf}
-use Rattle.fe_blur.specs.Floods.{one, floodColor, alphaOpacity, floodOf, transparentBlack}
-use Rattle.fe_blur.specs.Offsets.{two, offsetFieldsOf, dropShadowOf}
-use Rattle.fe_blur.specs.Ranges.{GaussianBlurRange, FloodRange, OffsetRange, DropShadowRange}
-use Rattle.fe_blur.proofs.Numbers.{scaled-num, made-positive}
-use Rattle.fe_blur.proofs.Opacity.{mul-ok, alpha-ok}
+use Rattle.fe.proofs.Numbers.{scaled-num, made-positive}
+use Rattle.fe_flood.specs.Flood.{floodColor}
+use Rattle.fe_flood.proofs.Ranges.{flood-range}
+use Rattle.fe_blur.specs.GaussianBlur.{deviation, numbersOrDefault, gaussianBlurOf}
+use Rattle.fe_blur.specs.Offset.{offsetFieldsOf}
+use Rattle.fe_blur.specs.DropShadow.{dropShadowOf}
+use Rattle.fe_blur.specs.Ranges.{GaussianBlurRange, OffsetRange, DropShadowRange}
 
 deviation-positive : (n scale : Float) → T (positive (deviation n scale))
 unfolding deviation
@@ -26,16 +27,11 @@ gaussian-blur-range n scale =
     let p = numbersOrDefault (triesOf n AId·StdDeviation) plusZero in
     record { deviation-x = deviation-positive (p .x) (scale .width); deviation-y = deviation-positive (p .y) (scale .height) }
 
--- a colour's alpha is a byte, and a sheet whose flood-opacity is out of range is refused
-module _ (n : Node) (alpha : T (leb (floodColor n .alpha) 255)) (given : T (opacityIn (numberOr n AId·FloodOpacity one))) where
-  pub flood-range : FloodRange (floodOf n)
-  flood-range = record { opacity = mul-ok (alphaOpacity (floodColor n .alpha)) (numberOr n AId·FloodOpacity one) (alpha-ok (floodColor n .alpha) alpha) given }
-
-two-finite : T (finite two)
+two-finite : IsFinite two
 unfolding ofBits
 two-finite = tt
 
-module _ (n : Node) (scale : Size) (width : T (finite (scale .width))) (height : T (finite (scale .height))) where
+module _ (n : Node) (scale : Size) (width : IsFinite (scale .width)) (height : IsFinite (scale .height)) where
   pub offset-range : OffsetRange (offsetFieldsOf n scale)
   offset-range =
       record {
@@ -43,6 +39,7 @@ module _ (n : Node) (scale : Size) (width : T (finite (scale .width))) (height :
         dy = scaled-num n AId·Dy plusZero (scale .height) zero-finite height;
       }
 
+  -- a colour's alpha is a byte, and a sheet whose flood-opacity is out of range is refused
   pub drop-shadow-range : T (leb (floodColor n .alpha) 255) → T (opacityIn (numberOr n AId·FloodOpacity one)) → DropShadowRange (dropShadowOf n scale)
   drop-shadow-range alpha given =
       let p = numbersOrDefault (triesOf n AId·StdDeviation) two in
@@ -53,7 +50,3 @@ module _ (n : Node) (scale : Size) (width : T (finite (scale .width))) (height :
         deviation-y = deviation-positive (p .y) (scale .height);
         opacity = flood-range n alpha given .opacity;
       }
-
-pub transparent-black-range : FloodRange transparentBlack
-unfolding opacityIn ofBits le
-transparent-black-range = record { opacity = tt }

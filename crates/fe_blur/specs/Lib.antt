@@ -1,5 +1,5 @@
-pub mod Deviations
-pub mod Floods
-pub mod Offsets
+pub mod GaussianBlur
+pub mod Offset
+pub mod DropShadow
 pub mod Ranges
 pub mod Cases

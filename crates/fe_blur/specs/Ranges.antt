@@ -1,10 +1,8 @@
 -- What holds of the numbers of these kinds: none is NaN, deviations are positive, an opacity is 0 to 1. Offsets may be infinite. Definitions only.
-use mathlib.Core.Bool.{not}
 use lib.Dec.{T}
-use lib.Ieee.{isNan}
+use Rattle.num.specs.Numbers.{IsNumber}
 use Rattle.num.specs.Sign.{positive, opacityIn}
 use Rattle.tree.specs.declared.GaussianBlur.{GaussianBlur}
-use Rattle.tree.specs.declared.Flood.{Flood}
 use Rattle.tree.specs.declared.Offset.{Offset}
 use Rattle.tree.specs.declared.DropShadow.{DropShadow}
 
@@ -13,16 +11,13 @@ pub record GaussianBlurRange (v : GaussianBlur) : Type 0 where
   pub deviation-x : T (positive (v .«std_dev_x»))
   pub deviation-y : T (positive (v .«std_dev_y»))
 
-pub record FloodRange (v : Flood) : Type 0 where
-  pub opacity : T (opacityIn (v .opacity))
-
 pub record OffsetRange (v : Offset) : Type 0 where
-  pub dx : T (not (isNan (v .dx)))
-  pub dy : T (not (isNan (v .dy)))
+  pub dx : IsNumber (v .dx)
+  pub dy : IsNumber (v .dy)
 
 pub record DropShadowRange (v : DropShadow) : Type 0 where
-  pub dx : T (not (isNan (v .dx)))
-  pub dy : T (not (isNan (v .dy)))
+  pub dx : IsNumber (v .dx)
+  pub dy : IsNumber (v .dy)
   pub deviation-x : T (positive (v .«std_dev_x»))
   pub deviation-y : T (positive (v .«std_dev_y»))
   pub opacity : T (opacityIn (v .opacity))

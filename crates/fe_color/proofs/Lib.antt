@@ -1,6 +1,5 @@
 -- the laws that belong to no one function
-pub mod Words
-pub mod Lists
+pub mod First
 pub mod Transfer
 pub mod Bounds
-pub mod Finite
+pub mod Numbers

@@ -7,12 +7,12 @@ use mathlib.Core.Option.{Option, none, some}
 use lib.Dec.{eqb}
 use lib.Ieee.{Float}
 use Rattle.names.specs.Ids.{AId·Type, AId·TableValues, AId·Slope, AId·Intercept, AId·Amplitude, AId·Exponent, AId·Offset, EId·FeFuncR, EId·FeFuncG, EId·FeFuncB, EId·FeFuncA}
+use Rattle.num.specs.Constants.{plusZero, one}
 use Rattle.svgtree.specs.Values.{Node}
 use Rattle.svgtree.specs.Readers.{textOf, numbersOf}
 use Rattle.tree.specs.Kinds.{TransferFunction, Identity, Table, Discrete, Linear, Gamma, ComponentTransferFields}
 use Rattle.fe.specs.Attributes.{numberOr}
-use Rattle.fe_color.specs.Keywords.{_means_, keyword}
-use Rattle.fe_color.specs.Numbers.{zero, one}
+use Rattle.fe.specs.Keywords.{Keyword, _means_, keyword}
 
 -- an absent list is an empty one
 abbrev pub orEmpty : Option (List Float) → List Float
@@ -23,24 +23,25 @@ abbrev pub tableValuesOf : Node → List Float
 tableValuesOf n = orEmpty (numbersOf n AId·TableValues)
 
 abbrev pub linearOf : Node → TransferFunction
-linearOf n = Linear (numberOr n AId·Slope one) (numberOr n AId·Intercept zero)
+linearOf n = Linear (numberOr n AId·Slope one) (numberOr n AId·Intercept plusZero)
 
 abbrev pub gammaOf : Node → TransferFunction
-gammaOf n = Gamma (numberOr n AId·Amplitude one) (numberOr n AId·Exponent one) (numberOr n AId·Offset zero)
+gammaOf n = Gamma (numberOr n AId·Amplitude one) (numberOr n AId·Exponent one) (numberOr n AId·Offset plusZero)
 
--- an element's function by its `type`. The document: `identity` where `type` is absent; the crate: an element whose `type` is absent or no
--- keyword is not readable.
-unfoldable pub transferFunctionOf : Node → Option TransferFunction
-transferFunctionOf n =
-    keyword
-    ("identity" means some Identity
+-- the values of `type`
+abbrev pub functionTypes : Node → List (Keyword (Option TransferFunction))
+functionTypes n =
+    "identity" means some Identity
     ∷ "table" means some (Table (tableValuesOf n))
     ∷ "discrete" means some (Discrete (tableValuesOf n))
     ∷ "linear" means some (linearOf n)
     ∷ "gamma" means some (gammaOf n)
-    ∷ [])
-    none
-    (textOf n AId·Type)
+    ∷ []
+
+-- an element's function by its `type`. The document: `identity` where `type` is absent; the crate: an element whose `type` is absent or no
+-- keyword is not readable.
+unfoldable pub transferFunctionOf : Node → Option TransferFunction
+transferFunctionOf n = keyword (functionTypes n) none (textOf n AId·Type)
 
 -- a value in a list of its own, where it is there and wanted
 abbrev pub wanted : {A : Type 0} → Bool → Option A → List A

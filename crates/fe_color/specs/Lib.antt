@@ -1,9 +1,6 @@
-pub mod Keywords
-pub mod Numbers
 pub mod Blend
 pub mod ColorMatrix
 pub mod ComponentTransfer
 pub mod Composite
-pub mod Interpolation
 pub mod Means
 pub mod Ranges

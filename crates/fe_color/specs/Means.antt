@@ -9,8 +9,8 @@ use Rattle.tree.specs.Kinds as spec
 use Rattle.tree.specs.Means.{transferFunctionIs}
 use Rattle.tree.specs.declared.TransferFunction.{TransferFunction}
 use Rattle.tree.specs.declared.ComponentTransfer.{ComponentTransfer}
-use Rattle.fe_color.specs.declared.MaybeTransferFunction.{MaybeTransferFunction}
-use Rattle.fe_color.specs.declared.MaybeTransferFunction.the-variants.{Is, No}
+use Rattle.fe_color.specs.declared.component_transfer.MaybeTransferFunction.{MaybeTransferFunction}
+use Rattle.fe_color.specs.declared.component_transfer.MaybeTransferFunction.the-variants.{Is, No}
 
 abbrev pub maybeTransferFunctionIs : List ℕ → MaybeTransferFunction → Option spec.TransferFunction
 maybeTransferFunctionIs s (Is f) = some (transferFunctionIs s f)

@@ -1,23 +1,13 @@
--- What is to hold of the numbers of these kinds: that none is NaN, and the ranges. Definitions only.
+-- The numbers of these kinds, and the ranges that hold of them. Definitions only.
 use mathlib.Core.Path.{_≡_}
-use mathlib.Core.Bool.{not}
 use mathlib.Core.List.{List, [], _∷_, _++_}
 use lib.Dec.{T}
 use lib.ListN.{length}
-use lib.Ieee.{Float, isNan, le}
+use lib.Ieee.{Float, le}
 use Rattle.tree.specs.Kinds.{ColorMatrixKind, Matrix, Saturate, HueRotate, LuminanceToAlpha, TransferFunction, Identity, Table, Discrete, Linear, Gamma, ComponentTransferFields}
 use Rattle.tree.specs.declared.CompositeOperator.{CompositeOperator}
 use Rattle.tree.specs.declared.CompositeOperator.the-variants.{Over, In, Out, Atop, Xor, Lighter, Arithmetic}
-use Rattle.fe_color.specs.Numbers.{zero, one}
-
--- what holds of each number of a list
-abbrev pub Each : (Float → Type 0) → List Float → Type 0
-Each P [] = Unit {0}
-Each P (x ∷ xs) = P x × Each P xs
-
--- no NaN; an infinity is a number
-abbrev pub IsNumber : Float → Type 0
-IsNumber x = T (not (isNan x))
+use Rattle.num.specs.Constants.{plusZero, one}
 
 -- the numbers of a value, in the order of its fields
 
@@ -53,6 +43,6 @@ operatorNumbers (Arithmetic k1 k2 k3 k4) = k1 ∷ k2 ∷ k3 ∷ k4 ∷ []
 -- a matrix has twenty numbers; a saturation lies between 0 and 1
 abbrev pub ColorMatrixRange : ColorMatrixKind → Type 0
 ColorMatrixRange (Matrix xs) = length xs ≡ 20
-ColorMatrixRange (Saturate x) = T (le zero x) × T (le x one)
+ColorMatrixRange (Saturate x) = T (le plusZero x) × T (le x one)
 ColorMatrixRange (HueRotate x) = Unit {0}
 ColorMatrixRange LuminanceToAlpha = Unit {0}

@@ -13,8 +13,9 @@ use mir.Val.{SFits}
 use mir.ValLaws.{toZ-ofZ}
 use Rattle.tree.proofs.Signed.{back, plain-value}
 use Rattle.tree.specs.Scalars.{twosComplement}
-use Rattle.fe_kernel.specs.declared.MaybeTarget.the-variants.{No}
-use Rattle.fe_kernel.specs.Cells.{above, below, inside}
+use Rattle.fe_kernel.specs.declared.target.MaybeTarget.the-variants.{No}
+use Rattle.fe_kernel.specs.Order.{above}
+use Rattle.fe_kernel.specs.Target.{below, inside}
 
 below-zero : (x : ℤ) → ltZ x (pos 0) ≡ true → 0 ≡ above x
 below-zero (pos n) h = absurd (omega (arith, ltb-true n 0 h))

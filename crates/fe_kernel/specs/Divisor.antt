@@ -2,13 +2,12 @@
 use mathlib.Core.Bool.{cond}
 use mathlib.Core.List.{List, [], _∷_}
 use lib.Ieee.{Float, binary32, add, mul, div, ofBits}
-use Rattle.num.specs.Narrowed.{plusZero}
+use Rattle.num.specs.Constants.{plusZero, one}
 use Rattle.num.specs.Sign.{nearZero}
 use Rattle.num.specs.Whole.{rounded}
 use Rattle.names.specs.Ids.{AId·Divisor}
 use Rattle.svgtree.specs.Values.{Node}
 use Rattle.fe.specs.Attributes.{numberOr}
-pub use Rattle.fe.specs.Attributes.{one}
 
 -- a total and the numbers of a list, "left to right", each sum rounded once
 unfoldable pub sumFrom : Float → List Float → Float

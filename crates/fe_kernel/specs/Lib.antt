@@ -1,6 +1,6 @@
-pub mod Cells
+pub mod Order
+pub mod Target
 pub mod Divisor
-pub mod Convolution
+pub mod ConvolveMatrix
 pub mod Means
 pub mod Ranges
-pub mod Cases

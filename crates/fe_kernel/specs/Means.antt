@@ -4,10 +4,10 @@ use mathlib.Core.List.{List}
 use mathlib.Core.Option.{Option, none, some}
 use Rattle.tree.specs.Kinds.{ConvolveMatrixData, ConvolveMatrixFields}
 use Rattle.tree.specs.Means.{convolveMatrixDataIs, convolveMatrixIs}
-use Rattle.fe_kernel.specs.declared.MaybeMatrix.{MaybeMatrix}
-use Rattle.fe_kernel.specs.declared.MaybeMatrix.the-variants as matrix
-use Rattle.fe_kernel.specs.declared.MaybeConvolveMatrix.{MaybeConvolveMatrix}
-use Rattle.fe_kernel.specs.declared.MaybeConvolveMatrix.the-variants as convolve
+use Rattle.fe_kernel.specs.declared.convolve_matrix.MaybeMatrix.{MaybeMatrix}
+use Rattle.fe_kernel.specs.declared.convolve_matrix.MaybeMatrix.the-variants as matrix
+use Rattle.fe_kernel.specs.declared.convolve_matrix.MaybeConvolveMatrix.{MaybeConvolveMatrix}
+use Rattle.fe_kernel.specs.declared.convolve_matrix.MaybeConvolveMatrix.the-variants as convolve
 
 abbrev pub maybeMatrixIs : List ℕ → MaybeMatrix → Option ConvolveMatrixData
 maybeMatrixIs s (matrix.Is m) = some (convolveMatrixDataIs s m)

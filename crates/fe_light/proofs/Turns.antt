@@ -5,9 +5,9 @@ use Prim.Native.Nat.{ℕ, suc, _+_, _-_, _<_}
 use native.Mathlib.Omega.{arith}
 use Rattle.tree.specs.declared.LightSource.{LightSource}
 use Rattle.svgtree.specs.Parse.{nodeAt, nodesFrom}
-use Rattle.fe_light.specs.declared.MaybeLight.{MaybeLight}
-use Rattle.fe_light.specs.declared.MaybeLight.the-variants.{Is, No}
-use Rattle.fe_light.specs.Lights.{lightOf, orLater, lightSourceOf}
+use Rattle.fe_light.specs.declared.light_source.MaybeLight.{MaybeLight}
+use Rattle.fe_light.specs.declared.light_source.MaybeLight.the-variants.{Is, No}
+use Rattle.fe_light.specs.LightSource.{lightOf, orLater, lightSourceOf}
 
 module _ (s : List ℕ) (i n : ℕ) where
   first-step : 0 < n → lightSourceOf (nodesFrom s i n) ≡ orLater (lightOf (nodeAt s i)) (lightSourceOf (nodesFrom s (i + 1) (n - 1)))

@@ -1,4 +1,5 @@
-pub mod Lights
-pub mod Lighting
+pub mod LightSource
+pub mod LightingColor
+pub mod DiffuseLighting
+pub mod SpecularLighting
 pub mod Ranges
-pub mod Cases

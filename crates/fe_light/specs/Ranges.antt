@@ -3,7 +3,7 @@ use mathlib.Core.Bool.{Bool, true}
 use mathlib.Core.List.{List, [], _∷_}
 use lib.Dec.{T}
 use lib.Ieee.{Float}
-use lib.Ieee.Scale.{finite}
+use Rattle.num.specs.Numbers.{IsFinite, Each}
 use Rattle.num.specs.Sign.{positive}
 use Rattle.tree.specs.declared.OptionF32.{OptionF32}
 use Rattle.tree.specs.declared.OptionF32.the-variants.{None, Some}
@@ -11,17 +11,11 @@ use Rattle.tree.specs.declared.LightSource.{LightSource}
 use Rattle.tree.specs.declared.LightSource.the-variants.{DistantLight, PointLight, SpotLight}
 use Rattle.tree.specs.declared.DiffuseLighting.{DiffuseLighting}
 use Rattle.tree.specs.declared.SpecularLighting.{SpecularLighting}
-use Rattle.fe_light.specs.declared.MaybeLight.{MaybeLight}
-use Rattle.fe_light.specs.declared.MaybeLight.the-variants as light
-use Rattle.fe_light.specs.declared.MaybeDiffuseLighting.{MaybeDiffuseLighting}
-use Rattle.fe_light.specs.declared.MaybeDiffuseLighting.the-variants as diffuse
-use Rattle.fe_light.specs.declared.MaybeSpecularLighting.{MaybeSpecularLighting}
-use Rattle.fe_light.specs.declared.MaybeSpecularLighting.the-variants as specular
-use Rattle.fe_light.specs.Lighting.{exponentInRange}
-
-abbrev pub AllFinite : List Float → Type 0
-AllFinite [] = T true
-AllFinite (x ∷ xs) = T (finite x) × AllFinite xs
+use Rattle.fe_light.specs.declared.diffuse_lighting.MaybeDiffuseLighting.{MaybeDiffuseLighting}
+use Rattle.fe_light.specs.declared.diffuse_lighting.MaybeDiffuseLighting.the-variants as diffuse
+use Rattle.fe_light.specs.declared.specular_lighting.MaybeSpecularLighting.{MaybeSpecularLighting}
+use Rattle.fe_light.specs.declared.specular_lighting.MaybeSpecularLighting.the-variants as specular
+use Rattle.fe_light.specs.SpecularLighting.{exponentInRange}
 
 -- the f32 that are written for a value, in their order
 
@@ -47,29 +41,25 @@ lightInRange (PointLight l) = true
 lightInRange (SpotLight l) = positive (l .«specular_exponent»)
 
 pub record LightRange (l : LightSource) : Type 0 where
-  pub numbers : AllFinite (lightNumbers l)
+  pub numbers : Each IsFinite (lightNumbers l)
   pub spot : T (lightInRange l)
 
 pub record DiffuseRange (v : DiffuseLighting) : Type 0 where
-  pub numbers : AllFinite (diffuseNumbers v)
+  pub numbers : Each IsFinite (diffuseNumbers v)
   pub spot : T (lightInRange (v .«light_source»))
 
 -- "specular lighting's exponent is 1 to 128"
 pub record SpecularRange (v : SpecularLighting) : Type 0 where
-  pub numbers : AllFinite (specularNumbers v)
+  pub numbers : Each IsFinite (specularNumbers v)
   pub exponent : T (exponentInRange (v .«specular_exponent»))
   pub spot : T (lightInRange (v .«light_source»))
 
 -- the same of an answer; where there is no value there is nothing to say
 
-abbrev pub LightOk : MaybeLight → Type 0
-LightOk (light.Is l) = LightRange l
-LightOk light.No = T true
-
 abbrev pub DiffuseOk : MaybeDiffuseLighting → Type 0
 DiffuseOk (diffuse.Is v) = DiffuseRange v
-DiffuseOk diffuse.No = T true
+DiffuseOk diffuse.No = Unit {0}
 
 abbrev pub SpecularOk : MaybeSpecularLighting → Type 0
 SpecularOk (specular.Is v) = SpecularRange v
-SpecularOk specular.No = T true
+SpecularOk specular.No = Unit {0}

@@ -8,7 +8,8 @@ use lib.Ieee.{Float, binary32, binary64, add, sub, mul, lt, fits}
 use lib.Ieee.Scale.{finite}
 use lib.Ieee.Fits.{and-l, and-r, add-fits}
 use lib.Ieee.Bits.{is-true}
-use Rattle.num.proofs.Laws.{Num, finite-num, plus, gap-finite}
+use Rattle.num.specs.Numbers.{IsNumber}
+use Rattle.num.proofs.Laws.{finite-num, plus, gap-finite}
 use Rattle.geom.proofs.Gaps.{gap-above}
 use Rattle.geom.specs.declared.Rect.{Rect}
 use Rattle.geom.specs.declared.MaybeRect.{MaybeRect}
@@ -87,7 +88,7 @@ side-parts a b t =
 -- ---- the numbers of a rectangle that exists
 -- a finite number, so no NaN
 abbrev pub Number : Float → Type 0
-Number x = T (finite x) × Num x
+Number x = T (finite x) × IsNumber x
 
 known : (x : Float) → T (finite x) → Number x
 known x t = (t, finite-num x t)

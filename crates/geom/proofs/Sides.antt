@@ -3,17 +3,18 @@ use mathlib.Core.Path.{_≡_, refl, sym, ap, _∙_}
 use mathlib.Core.Bool.{Bool, true, false, _&&_, true≢false}
 use lib.Ieee.{Float, nan, inf, fin, binary64, neg, add, sub, lt}
 use lib.Ieee.Scale.{finite}
-use Rattle.num.proofs.Laws.{Num, fin-num, inf-num}
+use Rattle.num.specs.Numbers.{IsNumber}
+use Rattle.num.proofs.Laws.{fin-num, inf-num}
 use Rattle.geom.specs.Geometry.{zero, largest, side, validLength, viewBoxLength}
 
 -- both sides of a `<` that holds are no NaN
-pub lt-left-num : (x y : Float) → lt x y ≡ true → Num x
+pub lt-left-num : (x y : Float) → lt x y ≡ true → IsNumber x
 unfolding lt
 lt-left-num nan y h = absurd (true≢false (sym h))
 lt-left-num (inf s) y h = inf-num s
 lt-left-num (fin s m e) y h = fin-num s m e
 
-pub lt-right-num : (x y : Float) → lt x y ≡ true → Num y
+pub lt-right-num : (x y : Float) → lt x y ≡ true → IsNumber y
 unfolding lt
 lt-right-num nan y h = absurd (true≢false (sym h))
 lt-right-num (inf s) nan h = absurd (true≢false (sym h))

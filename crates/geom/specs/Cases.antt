@@ -4,6 +4,7 @@ use lib.Ieee.{Float, binary32, ofBits, round, add, sub, mul, lt}
 use Rattle.geom.specs.declared.Rect.{Rect}
 use Rattle.geom.specs.declared.MaybeRect.the-variants.{Is, No}
 use Rattle.geom.specs.Geometry.{zero, largest, side, ofEdges, ofSize, widthOf, heightOf, placed}
+use Rattle.num.specs.Constants.{one, two}
 
 -- 0.25, 0.5, 1, 2, 2.25, 4, 2 ^ 74 and 2 ^ 75, by their f32 bits
 abbrev quarter : Float
@@ -11,12 +12,6 @@ quarter = ofBits binary32 0x3e80_0000
 
 abbrev half : Float
 half = ofBits binary32 0x3f00_0000
-
-abbrev one : Float
-one = ofBits binary32 0x3f80_0000
-
-abbrev two : Float
-two = ofBits binary32 0x4000_0000
 
 abbrev two-and-quarter : Float
 two-and-quarter = ofBits binary32 0x4010_0000

@@ -13,7 +13,7 @@ use mir.ValLaws.{toZ-pos, toZ-ofZ}
 use lib.Ieee.{Float, nan, inf, fin, Format, binary32, binary64, low, up, down, hid, ones, top, odd, ofFields, ofBits, toBits, toSigned, isNan}
 use lib.Ieee.Bits.{is-false}
 use lib.Ieee.Exact.{HasValue}
-use Rattle.num.proofs.Laws.{Num}
+use Rattle.num.specs.Numbers.{IsNumber}
 use Rattle.num.proofs.Patterns.{fields-low, fields-normal, ofBits-fields}
 use Rattle.num.specs.Whole.{halfUp, cutSize, awaySize, heldSigned, octavesOf}
 use Rattle.num.specs.Sign.{signNegative}
@@ -201,12 +201,12 @@ unfolding odd
 odd-negative d s zero k l = refl
 odd-negative d s (suc q) k l = refl
 
-fields-negative : (s : Bool) (x t : ℕ) → Num (ofFields binary32 s x t) → s ≡ signNegative (ofFields binary32 s x t)
+fields-negative : (s : Bool) (x t : ℕ) → IsNumber (ofFields binary32 s x t) → s ≡ signNegative (ofFields binary32 s x t)
 unfolding ofFields isNan
 fields-negative s zero t h = sym (odd-negative 24 s t 0 149)
 fields-negative s (suc x) t h = go (eqb (suc x) 255) (eqb t 0) h
   where
-    go : (a b : Bool) → Num (cond a (cond b (inf s) nan) (odd 24 s (8388608 + t) x 149)) → s ≡ signNegative (cond a (cond b (inf s) nan) (odd 24 s (8388608 + t) x 149))
+    go : (a b : Bool) → IsNumber (cond a (cond b (inf s) nan) (odd 24 s (8388608 + t) x 149)) → s ≡ signNegative (cond a (cond b (inf s) nan) (odd 24 s (8388608 + t) x 149))
     go true true h = refl
     go true false h = absurd h
     go false b h = sym (odd-negative 24 s (8388608 + t) x 149)
@@ -214,5 +214,5 @@ fields-negative s (suc x) t h = go (eqb (suc x) 255) (eqb t 0) h
 pub bits-negative : (x : Float) (b : ℕ) → b ≡ toBits binary32 x → ofBits binary32 b ≡ x → leb 2147483648 b ≡ signNegative x
 unfolding toBits isNan
 bits-negative nan b e d = ap (leb 2147483648) e
-bits-negative (inf s) b e d = let v = ofBits-fields binary32 b in fields-negative (leb 2147483648 b) (b % 2147483648 / 8388608) (b % 8388608) (subst Num (sym d ∙ v) tt) ∙ ap signNegative (sym v ∙ d)
-bits-negative (fin s m k) b e d = let v = ofBits-fields binary32 b in fields-negative (leb 2147483648 b) (b % 2147483648 / 8388608) (b % 8388608) (subst Num (sym d ∙ v) tt) ∙ ap signNegative (sym v ∙ d)
+bits-negative (inf s) b e d = let v = ofBits-fields binary32 b in fields-negative (leb 2147483648 b) (b % 2147483648 / 8388608) (b % 8388608) (subst IsNumber (sym d ∙ v) tt) ∙ ap signNegative (sym v ∙ d)
+bits-negative (fin s m k) b e d = let v = ofBits-fields binary32 b in fields-negative (leb 2147483648 b) (b % 2147483648 / 8388608) (b % 8388608) (subst IsNumber (sym d ∙ v) tt) ∙ ap signNegative (sym v ∙ d)

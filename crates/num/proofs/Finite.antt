@@ -11,7 +11,8 @@ use lib.Ieee.Scale.{finite}
 use Rattle.num.proofs.Laws.{finite-num}
 use Rattle.num.proofs.Patterns.{finite-bits}
 use Rattle.num.specs.declared.Number.the-variants.{Finite, Not}
-use Rattle.num.specs.Narrowed.{narrowed, numberOf, pick, plusZero, orZero, singleOf, doubleOf}
+use Rattle.num.specs.Narrowed.{narrowed, numberOf, pick, orZero, singleOf, doubleOf}
+use Rattle.num.specs.Constants.{plusZero}
 
 pub narrowed-fits : (x : Float) → T (fits binary32 (narrowed x))
 unfolding narrowed

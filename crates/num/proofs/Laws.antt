@@ -12,51 +12,48 @@ use lib.Ieee.{Float, nan, inf, fin, Format, binary32, binary64, prec, emax, low,
 use lib.Ieee.Fits.{round-is, down-pos}
 use lib.Ieee.Order.{round-mono}
 use lib.Ieee.Scale.{finite}
+use Rattle.num.specs.Numbers.{IsNumber}
 
--- x is no NaN
-abbrev pub Num : Float → Type 0
-Num x = T (not (isNan x))
-
-pub fin-num : (s : Bool) (m : ℕ) (e : ℤ) → Num (fin s m e)
+pub fin-num : (s : Bool) (m : ℕ) (e : ℤ) → IsNumber (fin s m e)
 unfolding isNan
 fin-num s m e = tt
 
-pub inf-num : (s : Bool) → Num (inf s)
+pub inf-num : (s : Bool) → IsNumber (inf s)
 unfolding isNan
 inf-num s = tt
 
-pub finite-num : (x : Float) → T (finite x) → Num x
+pub finite-num : (x : Float) → T (finite x) → IsNumber x
 finite-num nan h = absurd h
 finite-num (inf s) h = absurd h
 finite-num (fin s m e) h = fin-num s m e
 
-pub cond-num : (b : Bool) (x y : Float) → Num x → Num y → Num (cond b x y)
+pub cond-num : (b : Bool) (x y : Float) → IsNumber x → IsNumber y → IsNumber (cond b x y)
 cond-num true x y p q = p
 cond-num false x y p q = q
 
-pub odd-num : (d : ℕ) (s : Bool) (q k l : ℕ) → Num (odd d s q k l)
+pub odd-num : (d : ℕ) (s : Bool) (q k l : ℕ) → IsNumber (odd d s q k l)
 unfolding odd isNan
 odd-num d s zero k l = tt
 odd-num d s (suc q) k l = tt
 
-pub units-num : (f : Format) (s : Bool) (q k : ℕ) → Num (units f s q k)
+pub units-num : (f : Format) (s : Bool) (q k : ℕ) → IsNumber (units f s q k)
 unfolding units
 units-num f s q k = cond-num (ltb (q * 2 ^ k) (2 ^ (low f + suc (emax f)))) (odd (suc (prec f)) s q k (low f)) (inf s) (odd-num (suc (prec f)) s q k (low f)) (inf-num s)
 
-pub round-num : (f : Format) (s : Bool) (a c : ℕ) → Num (round f s a c)
+pub round-num : (f : Format) (s : Bool) (a c : ℕ) → IsNumber (round f s a c)
 round-num f s a c =
     let n = a * 2 ^ low f in
     let k = size (n / c) - prec f in
     let u = c * 2 ^ k in
-    subst Num (sym (round-is f s a c)) (units-num f s (nearest (n / u) (compare (n % u * 2) u)) k)
+    subst IsNumber (sym (round-is f s a c)) (units-num f s (nearest (n / u) (compare (n % u * 2) u)) k)
 
-pub sum-num : (f : Format) (s : Bool) (a : ℕ) (t : Bool) (b c : ℕ) → Num (sum f s a t b c)
+pub sum-num : (f : Format) (s : Bool) (a : ℕ) (t : Bool) (b c : ℕ) → IsNumber (sum f s a t b c)
 unfolding sum
 sum-num f s a t b c =
     cond-num (Bool·beq s t) (round f s (a + b) c) (cond (ltb a b) (round f t (b - a) c) (round f (s && ltb b a) (a - b) c)) (round-num f s (a + b) c)
     (cond-num (ltb a b) (round f t (b - a) c) (round f (s && ltb b a) (a - b) c) (round-num f t (b - a) c) (round-num f (s && ltb b a) (a - b) c))
 
-pub add-num : (f : Format) (x y : Float) → T (finite x) → T (finite y) → Num (add f x y)
+pub add-num : (f : Format) (x y : Float) → T (finite x) → T (finite y) → IsNumber (add f x y)
 unfolding add
 add-num f nan y h k = absurd h
 add-num f (inf s) y h k = absurd h
@@ -70,11 +67,11 @@ neg-finite nan h = absurd h
 neg-finite (inf s) h = absurd h
 neg-finite (fin s m e) h = tt
 
-pub sub-num : (f : Format) (x y : Float) → T (finite x) → T (finite y) → Num (sub f x y)
+pub sub-num : (f : Format) (x y : Float) → T (finite x) → T (finite y) → IsNumber (sub f x y)
 unfolding sub
 sub-num f x y h k = add-num f x (neg y) h (neg-finite y k)
 
-pub mul-num : (f : Format) (x y : Float) → T (finite x) → T (finite y) → Num (mul f x y)
+pub mul-num : (f : Format) (x y : Float) → T (finite x) → T (finite y) → IsNumber (mul f x y)
 unfolding mul
 mul-num f nan y h k = absurd h
 mul-num f (inf s) y h k = absurd h
@@ -88,7 +85,7 @@ nonzero nan = false
 nonzero (inf s) = false
 nonzero (fin s m e) = not (eqb m 0)
 
-pub div-num : (f : Format) (x y : Float) → Num x → T (nonzero y) → Num (div f x y)
+pub div-num : (f : Format) (x y : Float) → IsNumber x → T (nonzero y) → IsNumber (div f x y)
 unfolding div isNan
 div-num f nan y h k = absurd h
 div-num f (inf s) nan h k = absurd k
@@ -98,7 +95,7 @@ div-num f (fin s m e) nan h k = absurd k
 div-num f (fin s m e) (inf t) h k = absurd k
 div-num f (fin s m e) (fin t n d) h k = go (eqb n 0) k
   where
-    go : (b : Bool) → T (not b) → Num (cond b (cond (eqb m 0) nan (inf (unlike s t))) (round f (unlike s t) (m * up e * down d) (n * up d * down e)))
+    go : (b : Bool) → T (not b) → IsNumber (cond b (cond (eqb m 0) nan (inf (unlike s t))) (round f (unlike s t) (m * up e * down d) (n * up d * down e)))
     go true h = absurd h
     go false h = round-num f (unlike s t) (m * up e * down d) (n * up d * down e)
 
@@ -239,7 +236,7 @@ gap-finite x y h k l d =
     )
 
 -- ---- with an infinity on one side
-pub add-num-left : (f : Format) (x y : Float) → Num x → T (finite y) → Num (add f x y)
+pub add-num-left : (f : Format) (x y : Float) → IsNumber x → T (finite y) → IsNumber (add f x y)
 unfolding add isNan
 add-num-left f nan y h k = absurd h
 add-num-left f (inf s) nan h k = absurd k
@@ -249,14 +246,14 @@ add-num-left f (fin s m e) nan h k = absurd k
 add-num-left f (fin s m e) (inf t) h k = absurd k
 add-num-left f (fin s m e) (fin t n d) h k = sum-num f s (m * up e * down d) t (n * up d * down e) (down e * down d)
 
-pub mul-num-left : (f : Format) (x y : Float) → Num x → T (nonzero y) → Num (mul f x y)
+pub mul-num-left : (f : Format) (x y : Float) → IsNumber x → T (nonzero y) → IsNumber (mul f x y)
 unfolding mul isNan
 mul-num-left f nan y h k = absurd h
 mul-num-left f (inf s) nan h k = absurd k
 mul-num-left f (inf s) (inf t) h k = absurd k
 mul-num-left f (inf s) (fin t n d) h k = go (eqb n 0) k
   where
-    go : (b : Bool) → T (not b) → Num (cond b nan (inf (unlike s t)))
+    go : (b : Bool) → T (not b) → IsNumber (cond b nan (inf (unlike s t)))
     go true h = absurd h
     go false h = tt
 mul-num-left f (fin s m e) nan h k = absurd k

@@ -7,3 +7,4 @@ pub mod Finite
 pub mod Sizes
 pub mod Wholes
 pub mod Lists
+pub mod Each

@@ -9,7 +9,8 @@ use lib.ListN.{length, getD}
 use lib.Ieee.{Float}
 use lib.Ieee.Scale.{finite}
 use Rattle.bits.specs.Bytes.{le32}
-use Rattle.num.specs.Narrowed.{plusZero, singleOf}
+use Rattle.num.specs.Constants.{plusZero}
+use Rattle.num.specs.Narrowed.{singleOf}
 use Rattle.num.specs.Lists.{numbersFrom}
 use Rattle.num.proofs.Finite.{zero-finite, single-finite}
 

@@ -12,7 +12,8 @@ use lib.Ieee.{Float, nan, inf, fin, binary32, up, down, round, units, fits, nanB
 use lib.Ieee.Fits.{round-fits, nan-fits, inf-fits}
 use lib.Ieee.Bits.{ofBits-toBits, nanBits-is}
 use lib.Ieee.Scale.{finite}
-use Rattle.num.proofs.Laws.{Num, finite-num, round-num}
+use Rattle.num.specs.Numbers.{IsNumber}
+use Rattle.num.proofs.Laws.{finite-num, round-num}
 use lib.Ieee.Exact.{HasValue, units-val, round-exact}
 use lib.Ieee.Back.{round-whole}
 use lib.Ieee.Nearest.{div-same}
@@ -181,7 +182,7 @@ rounded-fits nan = nan-fits binary32
 rounded-fits (inf s) = inf-fits binary32 s
 rounded-fits (fin s m e) = round-fits binary32 s (halfUp (m * up e) (down e)) 1
 
-pub rounded-num : (x : Float) → Num x → Num (rounded x)
+pub rounded-num : (x : Float) → IsNumber x → IsNumber (rounded x)
 unfolding rounded
 rounded-num nan h = h
 rounded-num (inf s) h = h
@@ -205,4 +206,4 @@ module _ (x : Float) (b r : ℕ) (e : ofBits binary32 b ≡ x) (d : r ≡ toBits
   pub rounded-no-nan : b % 2147483648 < 2139095040 → T (not (nanBits binary32 r))
   rounded-no-nan l =
       let h : T (finite x) = subst T (sym (sym (ap finite e) ∙ finite-bits b ∙ lt-ltb (b % 2147483648) 2139095040 l)) tt in
-      subst (λ (z : Bool). T (not z)) (sym (nanBits-is binary32 r)) (subst Num (sym rounded-back) (rounded-num x (finite-num x h)))
+      subst (λ (z : Bool). T (not z)) (sym (nanBits-is binary32 r)) (subst IsNumber (sym rounded-back) (rounded-num x (finite-num x h)))

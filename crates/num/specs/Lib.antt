@@ -1,3 +1,5 @@
+pub mod Constants
+pub mod Numbers
 pub mod Narrowed
 pub mod Whole
 pub mod Sign

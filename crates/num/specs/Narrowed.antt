@@ -5,6 +5,7 @@ use lib.Ieee.{Float, nan, inf, fin, binary32, binary64, up, down, round, ofBits}
 use lib.Ieee.Scale.{finite}
 use Rattle.num.specs.declared.Number.{Number}
 use Rattle.num.specs.declared.Number.the-variants.{Finite, Not}
+use Rattle.num.specs.Constants.{plusZero}
 
 -- the f32 nearest to an f64, of two equally near ones the even one: Rust's `as f32`. `round` gives an infinity where the number is too large
 unfoldable pub narrowed : Float → Float
@@ -20,13 +21,13 @@ pick false a b = b
 unfoldable pub numberOf : Float → Number
 numberOf x = pick (finite x) (Finite x) Not
 
--- +0
-abbrev pub plusZero : Float
-plusZero = ofBits binary32 0
-
--- no sheet with a number that is not finite is read on, so what stands for it there is free: +0
+-- a number that is read; +0 for one that is not finite. A sheet with such a number is refused (number 3), so that zero is never used for a list
 unfoldable pub orZero : Float → Float
 orZero x = cond (finite x) x plusZero
+
+-- the f32 that an f64 is read as
+abbrev pub asF32 : Float → Float
+asF32 x = orZero (narrowed x)
 
 -- the number that f32 bits are read as
 unfoldable pub singleOf : ℕ → Float
@@ -34,4 +35,4 @@ singleOf b = orZero (ofBits binary32 b)
 
 -- the f32 that f64 bits are read as
 unfoldable pub doubleOf : ℕ → Float
-doubleOf b = orZero (narrowed (ofBits binary64 b))
+doubleOf b = asF32 (ofBits binary64 b)

@@ -1,9 +1,9 @@
 -- Sign, near zero, opacities and bounds of an f32. Definitions only.
 use mathlib.Core.Bool.{Bool, false, not, _&&_, _||_, cond}
 use lib.Dec.{leb, eqb}
-use lib.Ieee.{Float, nan, inf, fin, binary32, lt, le, ofBits, toBits}
+use lib.Ieee.{Float, nan, inf, fin, binary32, lt, le, toBits}
 use lib.Ieee.Scale.{finite}
-use Rattle.num.specs.Narrowed.{plusZero}
+use Rattle.num.specs.Constants.{plusZero, one}
 
 -- what strict-num calls positive: a finite number that is not below zero; -0 is one
 abbrev pub positive : Float → Bool
@@ -15,13 +15,9 @@ signNegative nan = false
 signNegative (inf s) = s
 signNegative (fin s m e) = s
 
--- 1
-abbrev pub plusOne : Float
-plusOne = ofBits binary32 0x3f80_0000
-
 -- "opacity 0 to 1". A sheet with "flood-opacity outside 0..1 or −0" is refused, so −0 is left out
 unfoldable pub opacityIn : Float → Bool
-opacityIn x = le plusZero x && le x plusOne && not (signNegative x)
+opacityIn x = le plusZero x && le x one && not (signNegative x)
 
 -- `approx_zero_ulps(4)`: +0, -0 and the patterns 1 to 4, but no number below zero
 abbrev pub nearZero : Float → Bool

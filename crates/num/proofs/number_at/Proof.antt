@@ -1,7 +1,8 @@
 -- `num::number_at` meets its contract: within the count it is the number 4 * i bytes on; past it, 0. Assumes nothing.
 use mathlib.Core.Path.{ap, sym, _∙_}
 use denote.Ref.{now}
-use Rattle.num.specs.Narrowed.{plusZero, singleOf}
+use Rattle.num.specs.Constants.{plusZero}
+use Rattle.num.specs.Narrowed.{singleOf}
 use Rattle.num.proofs.Lists.{numbers-at, numbers-past}
 use borrow.Author.Needs.{needs}
 use Rattle.num.proofs.number_at.Statement.{statement}

@@ -1,0 +1,3 @@
+pub mod DisplacementMap
+pub mod Ranges
+pub mod Cases

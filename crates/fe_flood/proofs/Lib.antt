@@ -1,0 +1,4 @@
+-- the laws that belong to no one function
+pub mod Opacity
+pub mod Alpha
+pub mod Ranges

@@ -1,0 +1,3 @@
+pub mod Flood
+pub mod Ranges
+pub mod Cases

@@ -1,0 +1,26 @@
+-- The text is compared with the words of the table, one after the other. Assumes nothing.
+use Rattle.fe.proofs.Keywords.{hit, miss, other}
+use borrow.Author.Needs.{needs}
+use Rattle.fe_morphology.proofs.morphology_operator.Statement.{statement}
+use Rattle.fe_morphology.proofs.morphology_operator.Tie as tie
+
+returns : tie.Need-returns
+returns c =
+    rw (← c .before .before .before .text-of .ensures)
+    (hit _ _ _ _ _ _ (c .before .is-word .ensures) (c .if1 .taken))
+
+returns-2 : tie.Need-returns-2
+returns-2 c =
+    rw (← c .before .before .before .text-of .ensures)
+    (miss _ _ _ _ _ _ _ (c .before .is-word .ensures) (c .if1 .left)
+    (other _ _))
+
+pub morphology-operator-spec : {M : Type 1} → statement M
+morphology-operator-spec =
+    tie.close
+    (tie.spec
+    (λ c κs. search needs)
+    (λ c. search needs)
+    (λ c κs. search needs)
+    returns
+    returns-2)

@@ -1,0 +1,3 @@
+pub mod Morphology
+pub mod Ranges
+pub mod Cases

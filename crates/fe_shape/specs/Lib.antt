@@ -1,6 +1,0 @@
-pub mod Pairs
-pub mod Morphologies
-pub mod Displacements
-pub mod Turbulences
-pub mod Ranges
-pub mod Cases

@@ -1,0 +1,2 @@
+-- the laws that belong to no one function
+pub mod Ranges

@@ -1,0 +1,3 @@
+pub mod Turbulence
+pub mod Ranges
+pub mod Cases
