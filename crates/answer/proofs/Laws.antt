@@ -1,18 +1,14 @@
 -- Laws of outcomes: no refusal has the number 0, a refusal leaves the output, and what is given at a number 0. Assumes nothing.
 use Prim.Native.Nat.{ℕ, _≤_, _<_}
-use mathlib.Core.Path.{_≡_, refl, sym, ap, _∙_, subst}
-use mathlib.Core.Bool.{Bool, true, false, cond}
+use mathlib.Core.Path.{_≡_, refl, sym, subst}
 use mathlib.Core.List.{List, _++_}
 use native.Mathlib.Omega.{arith}
 use borrow.Author.Tests.{le-leb, lt-leb}
-use lib.Dec.{leb}
 use lib.ListN.{length, drop}
 use Rattle.answer.specs.Refusals.{refusalNumber}
-use Rattle.answer.specs.Outcomes.{Outcome, refused, given, unlessRefused, inRoom, numberOf, lengthOf, outputOf, Answers}
+use Rattle.answer.specs.Outcomes.{Outcome, refused, given, inRoom, numberOf, Answers}
 use Rattle.answer.specs.declared.Refusal.{Refusal}
 use Rattle.answer.specs.declared.Refusal.the-variants.{TooLarge, Malformed, BadNumber, Image, NoRegion, Unrepresentable, BadFrequency, NoPrimitive, ShortOutput}
-use Rattle.answer.specs.declared.Checked.{Checked}
-use Rattle.answer.specs.declared.Checked.the-variants as checked
 use Rattle.answer.specs.declared.Answer.{Answer}
 
 pub never-zero : (r : Refusal) → refusalNumber r ≡ 0 → ⊥

@@ -4,6 +4,7 @@ use mathlib.Core.Bool.{cond}
 use mathlib.Core.List.{List, [], _∷_, map}
 use mathlib.Core.Option.{Option, none, some}
 use lib.Dec.{eqb}
+use Rattle.answer.specs.declared.Refusal.{Refusal}
 use Rattle.names.specs.Ids.{EId·FeBlend, EId·FeColorMatrix, EId·FeComponentTransfer, EId·FeComposite, EId·FeConvolveMatrix, EId·FeDiffuseLighting}
 use Rattle.names.specs.Ids.{EId·FeDisplacementMap, EId·FeDropShadow, EId·FeFlood, EId·FeGaussianBlur, EId·FeMerge, EId·FeMorphology, EId·FeOffset}
 use Rattle.names.specs.Ids.{EId·FeSpecularLighting, EId·FeTile, EId·FeTurbulence, AId·In2}
@@ -13,37 +14,38 @@ use Rattle.tree.specs.Input.{Name}
 use Rattle.tree.specs.Kinds.{Kind, Blend, ColorMatrix, ComponentTransfer, Composite, ConvolveMatrix, DiffuseLighting, DisplacementMap, DropShadow, Flood}
 use Rattle.tree.specs.Kinds.{ConvolveMatrixFields, GaussianBlur, Merge, Morphology, Offset, SpecularLighting, Tile, Turbulence}
 use Rattle.child.specs.Means.{inOf}
-use Rattle.units.specs.declared.Frame.{Frame}
+use Rattle.region.specs.declared.Frame.{Frame}
 use Rattle.subregion.specs.Subregions.{scaleOf}
 use Rattle.fe_color.specs.Blend.{modeOf}
 use Rattle.fe_color.specs.ColorMatrix.{colorMatrixKindOf}
 use Rattle.fe_color.specs.ComponentTransfer.{componentTransferOf}
-use Rattle.fe_color.specs.Composite.{operatorOf}
-use Rattle.fe_blur.specs.Deviations.{gaussianBlurOf}
-use Rattle.fe_blur.specs.Floods.{floodOf, transparentBlack}
-use Rattle.fe_blur.specs.Offsets.{offsetFieldsOf, dropShadowOf}
-use Rattle.fe_light.specs.Lighting.{diffuseLightingOf, specularLightingOf}
-use Rattle.fe_kernel.specs.Convolution.{convolveMatrixOf}
-use Rattle.fe_shape.specs.Morphologies.{morphologyOf, morphologyNumber}
-use Rattle.fe_shape.specs.Displacements.{displacementMapOf, displacementNumber}
-use Rattle.fe_shape.specs.Turbulences.{turbulenceOf, turbulenceNumber}
-use Rattle.fe_shape.specs.declared.MaybeMorphology.{MaybeMorphology}
-use Rattle.fe_shape.specs.declared.MaybeMorphology.the-variants as morphology
-use Rattle.fe_shape.specs.declared.MaybeDisplacementMap.{MaybeDisplacementMap}
-use Rattle.fe_shape.specs.declared.MaybeDisplacementMap.the-variants as displacement
-use Rattle.fe_shape.specs.declared.MaybeTurbulence.{MaybeTurbulence}
-use Rattle.fe_shape.specs.declared.MaybeTurbulence.the-variants as turbulence
-use Rattle.fe_light.specs.declared.MaybeDiffuseLighting.{MaybeDiffuseLighting}
-use Rattle.fe_light.specs.declared.MaybeDiffuseLighting.the-variants as diffuse
-use Rattle.fe_light.specs.declared.MaybeSpecularLighting.{MaybeSpecularLighting}
-use Rattle.fe_light.specs.declared.MaybeSpecularLighting.the-variants as specular
+use Rattle.fe_color.specs.Composite.{compositeOperatorOf}
+use Rattle.fe_blur.specs.GaussianBlur.{gaussianBlurOf}
+use Rattle.fe_flood.specs.Flood.{floodOf, transparentBlack}
+use Rattle.fe_blur.specs.Offset.{offsetFieldsOf}
+use Rattle.fe_blur.specs.DropShadow.{dropShadowOf}
+use Rattle.fe_light.specs.DiffuseLighting.{diffuseLightingOf}
+use Rattle.fe_light.specs.SpecularLighting.{specularLightingOf}
+use Rattle.fe_kernel.specs.ConvolveMatrix.{convolveMatrixOf}
+use Rattle.fe_morphology.specs.Morphology.{morphologyOf}
+use Rattle.fe_displacement_map.specs.DisplacementMap.{displacementMapOf}
+use Rattle.fe_turbulence.specs.Turbulence.{turbulenceOf}
+use Rattle.fe_morphology.specs.declared.MaybeMorphology.{MaybeMorphology}
+use Rattle.fe_morphology.specs.declared.MaybeMorphology.the-variants as morphology
+use Rattle.fe_displacement_map.specs.declared.MaybeDisplacementMap.{MaybeDisplacementMap}
+use Rattle.fe_displacement_map.specs.declared.MaybeDisplacementMap.the-variants as displacement
+use Rattle.fe_turbulence.specs.declared.MaybeTurbulence.{MaybeTurbulence}
+use Rattle.fe_turbulence.specs.declared.MaybeTurbulence.the-variants as turbulence
+use Rattle.fe_light.specs.declared.diffuse_lighting.MaybeDiffuseLighting.{MaybeDiffuseLighting}
+use Rattle.fe_light.specs.declared.diffuse_lighting.MaybeDiffuseLighting.the-variants as diffuse
+use Rattle.fe_light.specs.declared.specular_lighting.MaybeSpecularLighting.{MaybeSpecularLighting}
+use Rattle.fe_light.specs.declared.specular_lighting.MaybeSpecularLighting.the-variants as specular
 
--- what an element gives: a kind; nothing, where no primitive is made of its tag; or the refusal 6 or 7
+-- what an element gives: a kind; nothing, where no primitive is made of its tag; or a refusal
 pub data Made : Type 0 where
   made : Kind (Option Name) → Made
   unsupported : Made
-  six : Made
-  seven : Made
+  refused : Refusal → Made
 
 -- the second input of a node
 abbrev pub in2Of : Node → Option Name
@@ -65,23 +67,17 @@ abbrev pub convolveMade : Node → Option ConvolveMatrixFields → Made
 convolveMade n (some v) = made (ConvolveMatrix (inOf n) v)
 convolveMade n none = flood
 
--- the refusal of this number
-abbrev pub refusedWith : ℕ → Made
-refusedWith number = cond (eqb number 7) seven six
-
--- a radius product that is not finite is 6, and so is box width + height for a displacement; a base frequency that is not finite is 7
-
 abbrev pub morphologyMade : Node → MaybeMorphology → Made
 morphologyMade n (morphology.Is v) = made (Morphology (inOf n) v)
-morphologyMade n morphology.RadiusNotFinite = refusedWith (morphologyNumber morphology.RadiusNotFinite)
+morphologyMade n (morphology.Refused why) = refused why
 
 abbrev pub displacementMade : Node → MaybeDisplacementMap → Made
 displacementMade n (displacement.Is v) = made (DisplacementMap (inOf n) (in2Of n) v)
-displacementMade n displacement.BoxNotFinite = refusedWith (displacementNumber displacement.BoxNotFinite)
+displacementMade n (displacement.Refused why) = refused why
 
 abbrev pub turbulenceMade : MaybeTurbulence → Made
 turbulenceMade (turbulence.Is v) = made (Turbulence v)
-turbulenceMade turbulence.FrequencyNotFinite = refusedWith (turbulenceNumber turbulence.FrequencyNotFinite)
+turbulenceMade (turbulence.Refused why) = refused why
 
 infixl 6 _gives_
 -- a tag, and what an element with that tag gives
@@ -92,7 +88,8 @@ unfoldable pub byTag : List Tagged → ℕ → Made
 byTag [] tag = unsupported
 byTag ((t gives m) ∷ rest) tag = cond (eqb tag t) m (byTag rest tag)
 
--- every element that a primitive is made of; lengths and offsets are scaled by the box's size in box units
+-- every element that a primitive is made of; lengths and offsets are scaled by the box's size in box units. feMerge: the document has an input for each
+-- feMergeNode, the crate one for each child, of any tag or none
 abbrev pub elements : Frame → Node → List Node → List Tagged
 elements frame n children =
     (EId·FeDropShadow gives made (DropShadow (inOf n) (dropShadowOf n (scaleOf frame))))
@@ -100,7 +97,7 @@ elements frame n children =
     ∷ (EId·FeOffset gives made (Offset (inOf n) (offsetFieldsOf n (scaleOf frame))))
     ∷ (EId·FeBlend gives made (Blend (inOf n) (in2Of n) (modeOf n)))
     ∷ (EId·FeFlood gives made (Flood (floodOf n)))
-    ∷ (EId·FeComposite gives made (Composite (inOf n) (in2Of n) (operatorOf n)))
+    ∷ (EId·FeComposite gives made (Composite (inOf n) (in2Of n) (compositeOperatorOf n)))
     ∷ (EId·FeMerge gives made (Merge (map inOf children)))
     ∷ (EId·FeTile gives made (Tile (inOf n)))
     ∷ (EId·FeComponentTransfer gives made (ComponentTransfer (inOf n) (componentTransferOf children)))

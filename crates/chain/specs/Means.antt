@@ -6,12 +6,12 @@ use lib.Dec.{T}
 use mathlib.Core.List.{List, []}
 use Rattle.svgtree.specs.Parse.{countOf, nodeAt, nodesFrom, nodesAfter}
 use Rattle.child.specs.Means.{kindIs, childIs, mergeEnd}
-use Rattle.units.specs.declared.Frame.{Frame}
+use Rattle.region.specs.declared.Frame.{Frame}
 use Rattle.chain.specs.Elements as element
 use Rattle.chain.specs.Chain as chain
-use Rattle.chain.specs.Chain.{Chain, refusedSix, refusedSeven, kept, put, stepOf}
-use Rattle.chain.specs.declared.Made.{Made}
-use Rattle.chain.specs.declared.Made.the-variants as made
+use Rattle.chain.specs.Chain.{Chain, kept, put, stepOf}
+use Rattle.chain.specs.declared.elements.Made.{Made}
+use Rattle.chain.specs.declared.elements.Made.the-variants as made
 use Rattle.chain.specs.declared.Step.{Step}
 use Rattle.chain.specs.declared.Step.the-variants as step
 use Rattle.chain.specs.declared.Next.{Next}
@@ -20,28 +20,30 @@ use Rattle.chain.specs.declared.Next.the-variants as next
 abbrev pub madeIs : List ℕ → Made → element.Made
 madeIs s (made.Is k) = element.made (kindIs s k)
 madeIs s made.Unsupported = element.unsupported
-madeIs s made.Six = element.six
-madeIs s made.Seven = element.seven
+madeIs s (made.Refused why) = element.refused why
 
 -- the node after the last that a kind reads its inputs from
 abbrev pub madeEnd : Made → ℕ
 madeEnd (made.Is k) = mergeEnd k
 madeEnd made.Unsupported = 0
-madeEnd made.Six = 0
-madeEnd made.Seven = 0
+madeEnd (made.Refused why) = 0
+
+-- what is said of an element's answer r: it stands for m, and the nodes that its kind reads inputs from are before node `bound`
+pub record Makes (s : List ℕ) (r : Made) (m : element.Made) (bound : ℕ) : Type 0 where
+  pub exact : madeIs s r ≡ m
+  pub within : madeEnd r ≤ bound
 
 abbrev pub stepIs : List ℕ → Step → chain.Step
 stepIs s step.Pass = chain.pass
 stepIs s step.End = chain.end
-stepIs s step.Six = chain.six
-stepIs s step.Seven = chain.seven
+stepIs s (step.Refused why) = chain.refused why
 stepIs s (step.Count c) = chain.count (childIs s c)
 
+-- as for `madeEnd`
 abbrev pub stepEnd : Step → ℕ
 stepEnd step.Pass = 0
 stepEnd step.End = 0
-stepEnd step.Six = 0
-stepEnd step.Seven = 0
+stepEnd (step.Refused why) = 0
 stepEnd (step.Count c) = mergeEnd (c .kind)
 
 -- node i, with the nodes after it
@@ -52,19 +54,19 @@ stepAt frame s i = stepOf frame (nodeAt s i) (nodesAfter s i)
 abbrev pub chainFrom : Frame → List ℕ → ℕ → Chain
 chainFrom frame s i = chain.chain frame (nodesFrom s i (countOf s - i))
 
--- what is said of the next child from node `start` on: the chain goes on with it, it is the child of its node, and it is not before `start`
+-- how the chain goes on from the next child
 abbrev pub nextIs : Frame → List ℕ → Next → Chain
 nextIs frame s next.End = kept []
-nextIs frame s next.Six = refusedSix
-nextIs frame s next.Seven = refusedSeven
+nextIs frame s (next.Refused why) = chain.refused why
 nextIs frame s (next.Child j c) = put (childIs s c) (chainFrom frame s (j + 1))
 
+-- the next child is that of its node, which is not before `start`
 abbrev pub NextAt : Frame → List ℕ → ℕ → Next → Type 0
 NextAt frame s start next.End = T true
-NextAt frame s start next.Six = T true
-NextAt frame s start next.Seven = T true
+NextAt frame s start (next.Refused why) = T true
 NextAt frame s start (next.Child j c) = (start ≤ j) × (j < countOf s) × (stepAt frame s j ≡ chain.count (childIs s c)) × (mergeEnd (c .kind) ≤ 512)
 
+-- what is said of the next child from node `start` on
 pub record NextChild (frame : Frame) (s : List ℕ) (start : ℕ) (r : Next) : Type 0 where
   pub exact : chainFrom frame s start ≡ nextIs frame s r
   pub here : NextAt frame s start r

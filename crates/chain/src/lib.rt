@@ -1,302 +1,34 @@
 // A filter's children: each to its subregion and its kind, and the next child that counts.
 ghost use mathlib.Core.Path.{_≡_};
-ghost use mathlib.Core.List.{map};
-ghost use Prim.Native.Nat.{_+_, _-_, _≤_, _<_};
-ghost use Rattle.svgtree.specs.Parse.{countOf, offsetOf, nodeFrom, nodesFrom, childrenOf};
-ghost use Rattle.tree.specs.Kinds as spec;
-ghost use Rattle.child.specs.Means.{kindIs, inOf};
-ghost use Rattle.fe_blur.specs.Deviations.{gaussianBlurOf};
-ghost use Rattle.fe_blur.specs.Floods.{floodOf};
-ghost use Rattle.fe_blur.specs.Offsets.{offsetFieldsOf, dropShadowOf};
-ghost use Rattle.fe_color.specs.Blend.{modeOf};
-ghost use Rattle.fe_color.specs.ColorMatrix.{colorMatrixKindOf};
-ghost use Rattle.fe_color.specs.ComponentTransfer.{componentTransferOf};
-ghost use Rattle.fe_color.specs.Composite.{operatorOf};
-ghost use Rattle.fe_light.specs.Lighting.{diffuseLightingOf, specularLightingOf};
-ghost use Rattle.fe_kernel.specs.Convolution.{convolveMatrixOf};
-ghost use Rattle.fe_shape.specs.Morphologies.{morphologyOf};
-ghost use Rattle.fe_shape.specs.Displacements.{displacementMapOf};
-ghost use Rattle.fe_shape.specs.Turbulences.{turbulenceOf};
-ghost use Rattle.chain.specs.Elements as element;
-ghost use Rattle.chain.specs.Elements.{convolveMade, diffuseMade, specularMade, morphologyMade, displacementMade, turbulenceMade, in2Of, kindOf};
+ghost use Prim.Native.Nat.{_≤_, _<_};
+ghost use Rattle.svgtree.specs.Parse.{countOf, offsetOf, nodeFrom, childrenOf};
+ghost use Rattle.subregion.specs.Subregions.{regionOf};
 ghost use Rattle.chain.specs.Chain.{kindStep, regionStep};
 ghost use Rattle.chain.specs.Means.{madeIs, madeEnd, stepIs, stepEnd, stepAt, NextChild};
-ghost use Rattle.subregion.specs.Subregions.{regionOf};
-use child::Blend;
+use answer::Refusal;
 use child::Child;
-use child::ColorMatrix;
-use child::ComponentTransfer;
-use child::Composite;
-use child::ConvolveMatrix;
-use child::DiffuseLighting;
-use child::DisplacementMap;
-use child::DropShadow;
-use child::GaussianBlur;
-use child::Kind;
-use child::Merge;
-use child::Morphology;
-use child::Offset;
-use child::SpecularLighting;
-use child::Tile;
-use fe_blur::convert_drop_shadow;
-use fe_blur::convert_flood;
-use fe_blur::convert_gaussian_blur;
-use fe_blur::convert_offset;
-use fe_blur::create_dummy_primitive;
-use fe_color::convert_blend;
-use fe_color::convert_color_interpolation;
-use fe_color::convert_color_matrix_kind;
-use fe_color::convert_component_transfer;
-use fe_color::convert_composite;
-use fe_kernel::MaybeConvolveMatrix;
-use fe_kernel::convert_convolve_matrix;
-use fe_light::MaybeDiffuseLighting;
-use fe_light::MaybeSpecularLighting;
-use fe_light::convert_diffuse_lighting;
-use fe_light::convert_specular_lighting;
-use fe_shape::MaybeDisplacementMap;
-use fe_shape::MaybeMorphology;
-use fe_shape::MaybeTurbulence;
-use fe_shape::convert_displacement_map;
-use fe_shape::convert_morphology;
-use fe_shape::convert_turbulence;
+use elements::Made;
+use elements::kind_of;
+use fe::color_interpolation::convert_color_interpolation;
 use geom::Rect;
-use geom::Size;
 use names::aid;
-use names::eid;
+use region::Frame;
 use subregion::Subregion;
 use subregion::resolve_primitive_region;
-use subregion::scale;
 use svgtree::children;
 use svgtree::depth;
-use svgtree::node_count;
 use svgtree::node_offset;
+use svgtree::nodes::node_count;
 use svgtree::tag;
 use svgtree::text_of;
-use units::Frame;
 
-// What an element gives.
-pub enum Made {
-    Is(Kind),
-    Unsupported,
-    Six,
-    Seven,
-}
-
-// The kinds, one by one, inputs as they are read.
-
-fn make_blend(s: &[u8], at: u16) -> Made
-    ensures { λ r. ⌜ (madeIs (now (s .entry)) r ≡ element.made (spec.Blend (inOf (nodeFrom (now (s .entry)) at)) (in2Of (nodeFrom (now (s .entry)) at)) (modeOf (nodeFrom (now (s .entry)) at)))) × (madeEnd r ≤ 0) ⌝ }
-{
-    let input1 = text_of(s, at, aid::IN);
-    let input2 = text_of(s, at, aid::IN2);
-    let mode = convert_blend(s, at);
-    Made::Is(Kind::Blend(Blend {
-        input1,
-        input2,
-        mode,
-    }))
-}
-
-fn make_composite(s: &[u8], at: u16) -> Made
-    ensures { λ r. ⌜ (madeIs (now (s .entry)) r ≡ element.made (spec.Composite (inOf (nodeFrom (now (s .entry)) at)) (in2Of (nodeFrom (now (s .entry)) at)) (operatorOf (nodeFrom (now (s .entry)) at)))) × (madeEnd r ≤ 0) ⌝ }
-{
-    let input1 = text_of(s, at, aid::IN);
-    let input2 = text_of(s, at, aid::IN2);
-    let operator = convert_composite(s, at);
-    Made::Is(Kind::Composite(Composite {
-        input1,
-        input2,
-        operator,
-    }))
-}
-
-fn make_color_matrix(s: &[u8], at: u16) -> Made
-    ensures { λ r. ⌜ (madeIs (now (s .entry)) r ≡ element.made (spec.ColorMatrix (inOf (nodeFrom (now (s .entry)) at)) (colorMatrixKindOf (nodeFrom (now (s .entry)) at)))) × (madeEnd r ≤ 0) ⌝ }
-{
-    let input = text_of(s, at, aid::IN);
-    let kind = convert_color_matrix_kind(s, at);
-    Made::Is(Kind::ColorMatrix(ColorMatrix { input, kind }))
-}
-
-fn make_drop_shadow(s: &[u8], at: u16, scale: Size) -> Made
-    ensures { λ r. ⌜ (madeIs (now (s .entry)) r ≡ element.made (spec.DropShadow (inOf (nodeFrom (now (s .entry)) at)) (dropShadowOf (nodeFrom (now (s .entry)) at) scale))) × (madeEnd r ≤ 0) ⌝ }
-{
-    let input = text_of(s, at, aid::IN);
-    let fields = convert_drop_shadow(s, at, scale);
-    Made::Is(Kind::DropShadow(DropShadow { input, fields }))
-}
-
-fn make_gaussian_blur(s: &[u8], at: u16, scale: Size) -> Made
-    ensures { λ r. ⌜ (madeIs (now (s .entry)) r ≡ element.made (spec.GaussianBlur (inOf (nodeFrom (now (s .entry)) at)) (gaussianBlurOf (nodeFrom (now (s .entry)) at) scale))) × (madeEnd r ≤ 0) ⌝ }
-{
-    let input = text_of(s, at, aid::IN);
-    let fields = convert_gaussian_blur(s, at, scale);
-    Made::Is(Kind::GaussianBlur(GaussianBlur { input, fields }))
-}
-
-fn make_offset(s: &[u8], at: u16, scale: Size) -> Made
-    ensures { λ r. ⌜ (madeIs (now (s .entry)) r ≡ element.made (spec.Offset (inOf (nodeFrom (now (s .entry)) at)) (offsetFieldsOf (nodeFrom (now (s .entry)) at) scale))) × (madeEnd r ≤ 0) ⌝ }
-{
-    let input = text_of(s, at, aid::IN);
-    let fields = convert_offset(s, at, scale);
-    Made::Is(Kind::Offset(Offset { input, fields }))
-}
-
-fn make_flood(s: &[u8], at: u16) -> Made
-    ensures { λ r. ⌜ (madeIs (now (s .entry)) r ≡ element.made (spec.Flood (floodOf (nodeFrom (now (s .entry)) at)))) × (madeEnd r ≤ 0) ⌝ }
-{
-    Made::Is(Kind::Flood(convert_flood(s, at)))
-}
-
-fn make_tile(s: &[u8], at: u16) -> Made
-    ensures { λ r. ⌜ (madeIs (now (s .entry)) r ≡ element.made (spec.Tile (inOf (nodeFrom (now (s .entry)) at)))) × (madeEnd r ≤ 0) ⌝ }
-{
-    let input = text_of(s, at, aid::IN);
-    Made::Is(Kind::Tile(Tile { input }))
-}
-
-fn make_component_transfer(s: &[u8], at: u16, i: u16, n: u16) -> Made
-    requires { ⌜ i + n < 65536 ⌝ }
-    ensures { λ r. ⌜ (madeIs (now (s .entry)) r ≡ element.made (spec.ComponentTransfer (inOf (nodeFrom (now (s .entry)) at)) (componentTransferOf (nodesFrom (now (s .entry)) (i + 1) n)))) × (madeEnd r ≤ 0) ⌝ }
-{
-    let input = text_of(s, at, aid::IN);
-    let fields = convert_component_transfer(s, i, n);
-    Made::Is(Kind::ComponentTransfer(ComponentTransfer { input, fields }))
-}
-
-fn make_merge(s: &[u8], i: u16, n: u16) -> Made
-    requires { ⌜ i + 1 + n < 65536 ⌝ }
-    ensures { λ r. ⌜ (madeIs (now (s .entry)) r ≡ element.made (spec.Merge (map inOf (nodesFrom (now (s .entry)) (i + 1) n)))) × (madeEnd r ≤ i + 1 + n) ⌝ }
-{
-    Made::Is(Kind::Merge(Merge {
-        first: i + 1,
-        count: n,
-    }))
-}
-
-fn dummy(s: &[u8]) -> Made
-    ensures { λ r. ⌜ (madeIs (now (s .entry)) r ≡ element.flood) × (madeEnd r ≤ 0) ⌝ }
-{
-    Made::Is(Kind::Flood(create_dummy_primitive()))
-}
-
-fn make_convolve_matrix(s: &[u8], at: u16) -> Made
-    ensures { λ r. ⌜ (madeIs (now (s .entry)) r ≡ convolveMade (nodeFrom (now (s .entry)) at) (convolveMatrixOf (nodeFrom (now (s .entry)) at))) × (madeEnd r ≤ 0) ⌝ }
-{
-    let found = convert_convolve_matrix(s, at);
-    match found {
-        MaybeConvolveMatrix::Is(fields) => {
-            let input = text_of(s, at, aid::IN);
-            Made::Is(Kind::ConvolveMatrix(ConvolveMatrix { input, fields }))
-        }
-        MaybeConvolveMatrix::No => dummy(s),
-    }
-}
-
-fn make_diffuse_lighting(s: &[u8], at: u16, i: u16, n: u16) -> Made
-    requires { ⌜ i + n < 65536 ⌝ }
-    ensures { λ r. ⌜ (madeIs (now (s .entry)) r ≡ diffuseMade (nodeFrom (now (s .entry)) at) (diffuseLightingOf (nodeFrom (now (s .entry)) at) (nodesFrom (now (s .entry)) (i + 1) n))) × (madeEnd r ≤ 0) ⌝ }
-{
-    let found = convert_diffuse_lighting(s, at, i, n);
-    match found {
-        MaybeDiffuseLighting::Is(fields) => {
-            let input = text_of(s, at, aid::IN);
-            Made::Is(Kind::DiffuseLighting(DiffuseLighting { input, fields }))
-        }
-        MaybeDiffuseLighting::No => dummy(s),
-    }
-}
-
-fn make_specular_lighting(s: &[u8], at: u16, i: u16, n: u16) -> Made
-    requires { ⌜ i + n < 65536 ⌝ }
-    ensures { λ r. ⌜ (madeIs (now (s .entry)) r ≡ specularMade (nodeFrom (now (s .entry)) at) (specularLightingOf (nodeFrom (now (s .entry)) at) (nodesFrom (now (s .entry)) (i + 1) n))) × (madeEnd r ≤ 0) ⌝ }
-{
-    let found = convert_specular_lighting(s, at, i, n);
-    match found {
-        MaybeSpecularLighting::Is(fields) => {
-            let input = text_of(s, at, aid::IN);
-            Made::Is(Kind::SpecularLighting(SpecularLighting { input, fields }))
-        }
-        MaybeSpecularLighting::No => dummy(s),
-    }
-}
-
-fn make_morphology(s: &[u8], at: u16, scale: Size) -> Made
-    ensures { λ r. ⌜ (madeIs (now (s .entry)) r ≡ morphologyMade (nodeFrom (now (s .entry)) at) (morphologyOf (nodeFrom (now (s .entry)) at) scale)) × (madeEnd r ≤ 0) ⌝ }
-{
-    let found = convert_morphology(s, at, scale);
-    match found {
-        MaybeMorphology::Is(fields) => {
-            let input = text_of(s, at, aid::IN);
-            Made::Is(Kind::Morphology(Morphology { input, fields }))
-        }
-        MaybeMorphology::RadiusNotFinite => Made::Six,
-    }
-}
-
-fn make_displacement_map(s: &[u8], at: u16, scale: Size) -> Made
-    ensures { λ r. ⌜ (madeIs (now (s .entry)) r ≡ displacementMade (nodeFrom (now (s .entry)) at) (displacementMapOf (nodeFrom (now (s .entry)) at) scale)) × (madeEnd r ≤ 0) ⌝ }
-{
-    let found = convert_displacement_map(s, at, scale);
-    match found {
-        MaybeDisplacementMap::Is(fields) => {
-            let input1 = text_of(s, at, aid::IN);
-            let input2 = text_of(s, at, aid::IN2);
-            Made::Is(Kind::DisplacementMap(DisplacementMap {
-                input1,
-                input2,
-                fields,
-            }))
-        }
-        MaybeDisplacementMap::BoxNotFinite => Made::Six,
-    }
-}
-
-fn make_turbulence(s: &[u8], at: u16) -> Made
-    ensures { λ r. ⌜ (madeIs (now (s .entry)) r ≡ turbulenceMade (turbulenceOf (nodeFrom (now (s .entry)) at))) × (madeEnd r ≤ 0) ⌝ }
-{
-    let found = convert_turbulence(s, at);
-    match found {
-        MaybeTurbulence::Is(fields) => Made::Is(Kind::Turbulence(fields)),
-        MaybeTurbulence::FrequencyNotFinite => Made::Seven,
-    }
-}
-
-// The element at an offset, node number i, whose n children follow it.
-fn kind_of(s: &[u8], at: u16, i: u16, n: u16, frame: Frame) -> Made
-    requires { ⌜ i + 1 + n < 65536 ⌝ }
-    ensures { λ r. ⌜ (madeIs (now (s .entry)) r ≡ kindOf frame (nodeFrom (now (s .entry)) at) (nodesFrom (now (s .entry)) (i + 1) n)) × (madeEnd r ≤ i + 1 + n) ⌝ }
-{
-    let size = scale(frame);
-    let name = tag(s, at);
-    match name {
-        eid::FE_DROP_SHADOW => make_drop_shadow(s, at, size),
-        eid::FE_GAUSSIAN_BLUR => make_gaussian_blur(s, at, size),
-        eid::FE_OFFSET => make_offset(s, at, size),
-        eid::FE_BLEND => make_blend(s, at),
-        eid::FE_FLOOD => make_flood(s, at),
-        eid::FE_COMPOSITE => make_composite(s, at),
-        eid::FE_MERGE => make_merge(s, i, n),
-        eid::FE_TILE => make_tile(s, at),
-        eid::FE_COMPONENT_TRANSFER => make_component_transfer(s, at, i, n),
-        eid::FE_COLOR_MATRIX => make_color_matrix(s, at),
-        eid::FE_CONVOLVE_MATRIX => make_convolve_matrix(s, at),
-        eid::FE_MORPHOLOGY => make_morphology(s, at, size),
-        eid::FE_DISPLACEMENT_MAP => make_displacement_map(s, at, size),
-        eid::FE_TURBULENCE => make_turbulence(s, at),
-        eid::FE_DIFFUSE_LIGHTING => make_diffuse_lighting(s, at, i, n),
-        eid::FE_SPECULAR_LIGHTING => make_specular_lighting(s, at, i, n),
-        _ => Made::Unsupported,
-    }
-}
+mod elements;
 
 // What a node does to the chain of children.
 pub enum Step {
     Pass,
     End,
-    Six,
-    Seven,
+    Refused(Refusal),
     Count(Child),
 }
 
@@ -316,24 +48,22 @@ fn kind_step(s: &[u8], at: u16, rect: Rect, made: Made) -> Step
             })
         }
         Made::Unsupported => Step::Pass,
-        Made::Six => Step::Six,
-        Made::Seven => Step::Seven,
+        Made::Refused(why) => Step::Refused(why),
     }
 }
 
-// The region is tried before the kind.
+// The region decides before the kind. The kind is worked out first all the same: it is copied later, and need not be waited for then.
 fn region_step(s: &[u8], at: u16, i: u16, frame: Frame) -> Step
     requires { ⌜ (i < countOf (now s)) × (countOf (now s) ≤ 512) × (at ≡ offsetOf (now s) i) ⌝ }
     ensures { λ r. ⌜ (stepIs (now (s .entry)) r ≡ regionStep frame (nodeFrom (now (s .entry)) at) (childrenOf (now (s .entry)) i) (regionOf frame (nodeFrom (now (s .entry)) at))) × (stepEnd r ≤ 512) ⌝ }
 {
+    let n = children(s, i);
+    let made = kind_of(s, at, i, n, frame);
     let region = resolve_primitive_region(s, at, frame);
     match region {
-        Subregion::Is(rect) => {
-            let n = children(s, i);
-            kind_step(s, at, rect, kind_of(s, at, i, n, frame))
-        }
+        Subregion::Is(rect) => kind_step(s, at, rect, made),
         Subregion::Ends => Step::End,
-        Subregion::Unplaced => Step::Six,
+        Subregion::Refused(why) => Step::Refused(why),
     }
 }
 
@@ -354,8 +84,7 @@ pub fn step_of(s: &[u8], i: u16, frame: Frame) -> Step
 // The next child that counts, with its node's number, or how the chain ends.
 pub enum Next {
     End,
-    Six,
-    Seven,
+    Refused(Refusal),
     Child(u16, Child),
 }
 
@@ -370,8 +99,7 @@ pub fn next_child(s: &[u8], start: u16, frame: Frame) -> Next
         match step {
             Step::Count(child) => return Next::Child(i, child),
             Step::End => return Next::End,
-            Step::Six => return Next::Six,
-            Step::Seven => return Next::Seven,
+            Step::Refused(why) => return Next::Refused(why),
             Step::Pass => {}
         }
         i += 1;

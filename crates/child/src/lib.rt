@@ -102,9 +102,10 @@ pub enum Kind {
     Turbulence(tree::Turbulence),
 }
 
+// The kind stands where nothing is left open before it: a copy of it then takes as many bytes at a time as the processor can hand on.
 pub struct Child {
     pub rect: Rect,
+    pub kind: Kind,
     pub color_interpolation: ColorInterpolation,
     pub result: MaybeText,
-    pub kind: Kind,
 }

@@ -2,7 +2,7 @@
 use mathlib.Core.Path.{_≡_, refl, sym, ap, ap₂, _∙_}
 use mathlib.Core.List.{List, [], _∷_, _++_, map, append-nil, append-assoc}
 use mathlib.Core.Option.{Option, none}
-use Prim.Native.Nat.{ℕ, zero, suc, _+_, _*_, _≤_, _<_}
+use Prim.Native.Nat.{ℕ, zero, suc, _+_, _≤_, _<_}
 use native.Mathlib.Numerals.{add-one}
 use native.Mathlib.Omega.{arith}
 use lib.ListN.{length, getD, take, set, length-append, length-set}
@@ -13,17 +13,17 @@ use Rattle.tree.specs.List.{primitiveBytes, primitiveSize, records}
 use Rattle.child.specs.Child as value
 use Rattle.child.specs.Means.{childIs}
 use Rattle.child.specs.declared.Child.{Child}
-use Rattle.units.specs.declared.Frame.{Frame}
+use Rattle.region.specs.declared.Frame.{Frame}
 use Rattle.naming.specs.Names.{Label, Results, start, nameOf, label, after, afterAll, resultsOf, labels}
 use Rattle.naming.specs.Inputs.{resolve}
-use Rattle.results.specs.Means.{Named, entryIs, labelIs, labelsIs, namesIs}
+use Rattle.results.specs.Means.{Named, entryIs, labelIs, labelsIs}
 use Rattle.results.specs.declared.ResultName.{ResultName}
 use Rattle.results.specs.declared.FilterResults.{FilterResults}
 use Rattle.naming.proofs.Claim.{map-snoc}
 use Rattle.results.proofs.Tables.{named-first, named-at}
 use Rattle.list_primitives.specs.Primitives.{primitiveOf, primitivesFrom, primitives, ownsOf}
 use Rattle.list_primitives.specs.Tables.{primitiveAt}
-use Rattle.list_records.specs.Tables.{childAt, recordAt, recordsUpTo, sizesUpTo, Measures}
+use Rattle.list_records.specs.Tables.{childAt, childrenIs, recordAt, recordsUpTo, sizesUpTo, Measures}
 
 take-map : {A B : Type 0} (g : A → B) (k : ℕ) (l : List A) → take k (map g l) ≡ map g (take k l)
 take-map g zero l = refl
@@ -47,7 +47,7 @@ built-of c l ls =
 
 -- one record more, at the end
 
-pub primitives-snoc : (st : Results) (cs : List value.Child) (c : value.Child)
+primitives-snoc : (st : Results) (cs : List value.Child) (c : value.Child)
     → primitivesFrom st (cs ++ (c ∷ [])) ≡ primitivesFrom st cs ++ (primitiveOf (afterAll st (ownsOf cs)) c ∷ [])
 unfolding primitivesFrom afterAll
 primitives-snoc st [] c = refl
@@ -71,20 +71,16 @@ module _ (frame : Frame) (s nodes names : List ℕ) where
   unfolding recordsUpTo
   records-none = refl
 
-  pub sizes-step : (j : ℕ) → sizesUpTo frame s nodes names (j + 1) ≡ sizesUpTo frame s nodes names j ++ (length (recordNext j) ∷ [])
+  sizes-step : (j : ℕ) → sizesUpTo frame s nodes names (j + 1) ≡ sizesUpTo frame s nodes names j ++ (length (recordNext j) ∷ [])
   unfolding sizesUpTo
   sizes-step j = rw (add-one j)
 
   -- one more entry of the table of sizes
-  pub size-set : (sizes : List ℕ) (j v : ℕ) → j < length sizes → take j sizes ≡ sizesUpTo frame s nodes names j → v ≡ length (recordNext j)
+  size-set : (sizes : List ℕ) (j v : ℕ) → j < length sizes → take j sizes ≡ sizesUpTo frame s nodes names j → v ≡ length (recordNext j)
       → take (j + 1) (set sizes j v) ≡ sizesUpTo frame s nodes names (j + 1)
   size-set sizes j v h e q = rw (add-one j) (take-suc-set sizes j v h ∙ ap₂ (λ (l : List ℕ) (k : ℕ). l ++ (k ∷ [])) e q) ∙ sym (sizes-step j)
 
-  pub sizes-none : sizesUpTo frame s nodes names 0 ≡ []
-  unfolding sizesUpTo
-  sizes-none = refl
-
-  pub total-step : (j : ℕ) → length (recordsUpTo frame s nodes names (j + 1)) ≡ length (recordsUpTo frame s nodes names j) + length (recordNext j)
+  total-step : (j : ℕ) → length (recordsUpTo frame s nodes names (j + 1)) ≡ length (recordsUpTo frame s nodes names j) + length (recordNext j)
   total-step j = ap length (records-step j) ∙ length-append (recordsUpTo frame s nodes names j) (recordNext j)
 
   -- a child that was read, under the name of record j
@@ -92,27 +88,23 @@ module _ (frame : Frame) (s nodes names : List ℕ) where
       → primitiveAt s names j name c ≡ recordAt frame s names i j
   same-record c name i j e q = ap₂ (λ (x : value.Child) (l : Label). built-of x l (labelsIs s names j)) e q
 
-  -- the children of the first nodes of the table
-  abbrev pub childrenUpTo : ℕ → List value.Child
-  childrenUpTo n = map (childAt frame s) (take n nodes)
-
-  children-suc : (j : ℕ) → j < length nodes → childrenUpTo (suc j) ≡ childrenUpTo j ++ (childAt frame s (getD nodes j 0) ∷ [])
+  children-suc : (j : ℕ) → j < length nodes → childrenIs frame s nodes (suc j) ≡ childrenIs frame s nodes j ++ (childAt frame s (getD nodes j 0) ∷ [])
   children-suc j h = ap (map (childAt frame s)) (take-suc nodes j 0 h) ∙ map-snoc (childAt frame s) (take j nodes) (getD nodes j 0)
 
-  module _ (f : FilterResults) (n : ℕ) (long : n ≤ length nodes) (named : Named s names f (ownsOf (childrenUpTo n))) (counted : f .count ≡ n) where
-    owns-first : (j : ℕ) → j ≤ n → take j (ownsOf (childrenUpTo n)) ≡ ownsOf (childrenUpTo j)
+  module _ (f : FilterResults) (n : ℕ) (long : n ≤ length nodes) (named : Named s names f (ownsOf (childrenIs frame s nodes n))) (counted : f .count ≡ n) where
+    owns-first : (j : ℕ) → j ≤ n → take j (ownsOf (childrenIs frame s nodes n)) ≡ ownsOf (childrenIs frame s nodes j)
     owns-first j h =
-        take-map (λ (c : value.Child). c .own) j (childrenUpTo n)
+        take-map (λ (c : value.Child). c .own) j (childrenIs frame s nodes n)
         ∙ ap ownsOf (take-map (childAt frame s) j (take n nodes) ∙ ap (map (childAt frame s)) (take-take j n nodes h))
 
-    own-here : (j : ℕ) → j < n → getD (ownsOf (childrenUpTo n)) j none ≡ childAt frame s (getD nodes j 0) .own
+    own-here : (j : ℕ) → j < n → getD (ownsOf (childrenIs frame s nodes n)) j none ≡ childAt frame s (getD nodes j 0) .own
     own-here j h =
         own-at (childAt frame s) (take n nodes) j (omega (arith, length-take-le n nodes long))
         ∙ ap (λ (i : ℕ). childAt frame s i .own) (getD-take n nodes j 0 h)
 
     -- record j is the primitive of its child
     record-is : (j : ℕ) → j < n
-        → recordAt frame s names (getD nodes j 0) j ≡ primitiveOf (resultsOf (ownsOf (childrenUpTo j))) (childAt frame s (getD nodes j 0))
+        → recordAt frame s names (getD nodes j 0) j ≡ primitiveOf (resultsOf (ownsOf (childrenIs frame s nodes j))) (childAt frame s (getD nodes j 0))
     record-is j h =
         let c = childAt frame s (getD nodes j 0) in
         let first = owns-first j (omega arith) in
@@ -121,24 +113,24 @@ module _ (frame : Frame) (s nodes names : List ℕ) where
         let known = named-first named j (omega arith) ∙ ap labels first in
         ap₂ (λ (l : Label) (ls : List Label). built-of c l ls) called known
 
-    pub records-are : (j : ℕ) → j ≤ n → recordsUpTo frame s nodes names j ≡ records (primitives (childrenUpTo j))
+    pub records-are : (j : ℕ) → j ≤ n → recordsUpTo frame s nodes names j ≡ records (primitives (childrenIs frame s nodes j))
     unfolding recordsUpTo records primitivesFrom
     records-are zero h = refl
     records-are (suc j) h =
         let c = childAt frame s (getD nodes j 0) in
         ap₂ _++_ (records-are j (omega arith)) (ap primitiveBytes (record-is j (omega arith)))
-        ∙ sym (records-snoc (primitives (childrenUpTo j)) (primitiveOf (resultsOf (ownsOf (childrenUpTo j))) c))
-        ∙ ap records (sym (primitives-snoc start (childrenUpTo j) c) ∙ ap primitives (sym (children-suc j (omega arith))))
+        ∙ sym (records-snoc (primitives (childrenIs frame s nodes j)) (primitiveOf (resultsOf (ownsOf (childrenIs frame s nodes j))) c))
+        ∙ ap records (sym (primitives-snoc start (childrenIs frame s nodes j) c) ∙ ap primitives (sym (children-suc j (omega arith))))
 
-    pub sizes-are : (j : ℕ) → j ≤ n → sizesUpTo frame s nodes names j ≡ map primitiveSize (primitives (childrenUpTo j))
+    pub sizes-are : (j : ℕ) → j ≤ n → sizesUpTo frame s nodes names j ≡ map primitiveSize (primitives (childrenIs frame s nodes j))
     unfolding sizesUpTo primitivesFrom
     sizes-are zero h = refl
     sizes-are (suc j) h =
         let c = childAt frame s (getD nodes j 0) in
-        let p = primitiveOf (resultsOf (ownsOf (childrenUpTo j))) c in
+        let p = primitiveOf (resultsOf (ownsOf (childrenIs frame s nodes j))) c in
         ap₂ (λ (l : List ℕ) (k : ℕ). l ++ (k ∷ [])) (sizes-are j (omega arith)) (ap primitiveSize (record-is j (omega arith)))
-        ∙ sym (map-snoc primitiveSize (primitives (childrenUpTo j)) p)
-        ∙ ap (map primitiveSize) (sym (primitives-snoc start (childrenUpTo j) c) ∙ ap primitives (sym (children-suc j (omega arith))))
+        ∙ sym (map-snoc primitiveSize (primitives (childrenIs frame s nodes j)) p)
+        ∙ ap (map primitiveSize) (sym (primitives-snoc start (childrenIs frame s nodes j) c) ∙ ap primitives (sym (children-suc j (omega arith))))
 
 -- One record more, in tables that begin as they did
 

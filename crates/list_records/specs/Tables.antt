@@ -1,22 +1,22 @@
 -- What a table of nodes and a table of names stand for, record by record. Definitions only.
 use Prim.Native.Nat.{ℕ, zero, suc, _*_, _≤_, _<_}
 use mathlib.Core.Path.{_≡_}
-use mathlib.Core.List.{List, [], _∷_, _++_}
+use mathlib.Core.List.{List, [], _∷_, _++_, map}
 use mathlib.Core.Option.{none}
 use lib.ListN.{getD, length, take}
-use Rattle.num.specs.Narrowed.{plusZero}
+use Rattle.num.specs.Constants.{plusZero}
 use Rattle.tree.specs.Kinds.{Primitive, Tile, mapKind}
 use Rattle.tree.specs.List.{primitiveBytes}
 use Rattle.tree.specs.declared.ColorInterpolation.the-variants.{LinearRGB}
 use Rattle.child.specs.Child.{Child}
-use Rattle.units.specs.declared.Frame.{Frame}
-use Rattle.chain.specs.Chain.{Step, pass, end, six, seven, count}
+use Rattle.region.specs.declared.Frame.{Frame}
+use Rattle.chain.specs.Chain.{Step, pass, end, refused, count}
 use Rattle.chain.specs.Means.{stepAt}
 use Rattle.naming.specs.Inputs.{resolve}
 use Rattle.naming.specs.Names.{nameOf}
 use Rattle.results.specs.Means.{entryIs, namesIs}
 
--- a child that stands for none: only nodes that count are in a table
+-- a placeholder, never used: only nodes that count are in a table
 abbrev pub nobody : Child
 nobody =
     record {
@@ -29,13 +29,16 @@ nobody =
 abbrev pub childIn : Step → Child
 childIn pass = nobody
 childIn end = nobody
-childIn six = nobody
-childIn seven = nobody
+childIn (refused why) = nobody
 childIn (count c) = c
 
 -- the child that node i is
 abbrev pub childAt : Frame → List ℕ → ℕ → Child
 childAt frame s i = childIn (stepAt frame s i)
+
+-- the children that the first n nodes of a table are
+abbrev pub childrenIs : Frame → (s nodes : List ℕ) → ℕ → List Child
+childrenIs frame s nodes n = map (childAt frame s) (take n nodes)
 
 -- record j, of node i: its name is that of its entry, and its inputs are resolved with the names of the j records before it
 abbrev pub recordAt : Frame → (s names : List ℕ) → (i j : ℕ) → Primitive

@@ -16,9 +16,9 @@ use child::Kind;
 use child::Tile;
 use geom::Rect;
 use list_primitives::put_primitive;
+use region::Frame;
 use results::name_of;
 use tree::ColorInterpolation;
-use units::Frame;
 
 // Stands for a node that does not count; no table has one.
 fn no_child(s: &[u8]) -> Child
@@ -50,8 +50,7 @@ pub fn child_of(s: &[u8], i: u16, frame: Frame) -> Child
         Step::Count(child) => child,
         Step::Pass => no_child(s),
         Step::End => no_child(s),
-        Step::Six => no_child(s),
-        Step::Seven => no_child(s),
+        Step::Refused(_) => no_child(s),
     }
 }
 

@@ -5,7 +5,9 @@ use mathlib.Core.Bool.{Bool, true, false}
 use lib.Dec.{T, eqb}
 use lib.Ieee.{Float, binary32, ofBits, fits, lt}
 use lib.Ieee.Scale.{finite}
-use Rattle.num.specs.Narrowed.{plusZero}
+use Rattle.answer.specs.declared.Refusal.{Refusal}
+use Rattle.answer.specs.declared.Refusal.the-variants.{Unrepresentable}
+use Rattle.num.specs.Constants.{plusZero, one}
 use Rattle.geom.specs.declared.Rect.{Rect}
 use Rattle.geom.specs.declared.Size.{Size}
 use Rattle.geom.specs.declared.MaybeRect.{MaybeRect}
@@ -18,14 +20,14 @@ use Rattle.svgtree.specs.declared.MaybeNumber.{MaybeNumber}
 use Rattle.svgtree.specs.declared.MaybeNumber.the-variants as maybe-number
 use Rattle.units.specs.declared.Units.{Units}
 use Rattle.units.specs.declared.Units.the-variants as units
-use Rattle.units.specs.declared.Frame.{Frame}
 use Rattle.units.specs.Lengths.{tryConvertLength}
 use Rattle.units.proofs.Lengths.{FiniteState, AllSingle, try-single, zero-one}
-use Rattle.units.proofs.Regions.{SoundFrame}
+use Rattle.region.specs.declared.Frame.{Frame}
+use Rattle.region.proofs.Regions.{SoundFrame}
 use Rattle.subregion.specs.declared.Subregion.{Subregion}
 use Rattle.subregion.specs.declared.Subregion.the-variants as subregion
 use Rattle.svgtree.specs.Readers.{orElse}
-use Rattle.subregion.specs.Subregions.{one, valueOr, childRect, orEnds, orUnplaced, userSpaceRegion, floodIn, childIn, bboxRegion, byUnits, regionOf, unscaled, sizeIn, scaleIn, scaleOf}
+use Rattle.subregion.specs.Subregions.{valueOr, childRect, orEnds, orRefused, userSpaceRegion, floodIn, placedChild, bboxRegion, byUnits, regionOf, unscaled, sizeIn, scaleIn, scaleOf}
 
 -- ---- what holds of the child's rectangle in user space and of everything that is placed holds of the subregion
 module _ (P : Rect → Type 0) (placing : (r c q : Rect) → placed r c ≡ rect.Is q → P q) where
@@ -33,19 +35,19 @@ module _ (P : Rect → Type 0) (placing : (r c q : Rect) → placed r c ≡ rect
   ends-all (rect.Is r) f q e = let i : r ≡ q = cc in subst P i (f r refl)
   ends-all rect.No f q e = let z : _≡_ {A = ℕ} 0 1 = cc in absurd (zero-one z)
 
-  unplaced-all : (m : MaybeRect) → ((q : Rect) → m ≡ rect.Is q → P q) → (q : Rect) → orUnplaced m ≡ subregion.Is q → P q
-  unplaced-all (rect.Is r) f q e = let i : r ≡ q = cc in subst P i (f r refl)
-  unplaced-all rect.No f q e = let z : _≡_ {A = ℕ} 0 1 = cc in absurd (zero-one z)
+  refused-all : (m : MaybeRect) → ((q : Rect) → m ≡ rect.Is q → P q) → (q : Rect) → orRefused m ≡ subregion.Is q → P q
+  refused-all (rect.Is r) f q e = let i : r ≡ q = cc in subst P i (f r refl)
+  refused-all rect.No f q e = let z : _≡_ {A = ℕ} 0 1 = cc in absurd (zero-one z)
 
   flood-all : (b : MaybeRect) (c q : Rect) → floodIn b c ≡ subregion.Is q → P q
-  flood-all (rect.Is b) c q e = unplaced-all (placed c b) (placing c b) q e
+  flood-all (rect.Is b) c q e = refused-all (placed c b) (placing c b) q e
   flood-all rect.No c q e = let z : _≡_ {A = ℕ} 0 1 = cc in absurd (zero-one z)
 
-  child-all : (flood : Bool) (f : Frame) (m : MaybeRect) (q : Rect) → childIn flood f m ≡ subregion.Is q → P q
+  child-all : (flood : Bool) (f : Frame) (m : MaybeRect) (q : Rect) → placedChild flood f m ≡ subregion.Is q → P q
   child-all true f rect.No q e = let z : _≡_ {A = ℕ} 0 1 = cc in absurd (zero-one z)
   child-all false f rect.No q e = let z : _≡_ {A = ℕ} 0 1 = cc in absurd (zero-one z)
   child-all true f (rect.Is c) q e = flood-all (f .bbox) c q e
-  child-all false f (rect.Is c) q e = unplaced-all (placed (f .region) c) (placing (f .region) c) q e
+  child-all false f (rect.Is c) q e = refused-all (placed (f .region) c) (placing (f .region) c) q e
 
   units-all : (u : Units) (a b : Subregion) → ((q : Rect) → a ≡ subregion.Is q → P q) → ((q : Rect) → b ≡ subregion.Is q → P q) → (q : Rect) → byUnits u a b ≡ subregion.Is q → P q
   units-all units.UserSpaceOnUse a b f g q e = f q e
@@ -65,6 +67,33 @@ module _ (P : Rect → Type 0) (placing : (r c q : Rect) → placed r c ≡ rect
   unfolding regionOf
   region-all f n g q e = units-all (f .units) (userSpaceRegion f n) (bboxRegion f n) (user-all f n g) (bbox-all f n) q e
 
+-- ---- a child is refused in one way only, as unrepresentable
+refused-as : (m : MaybeRect) (why : Refusal) → orRefused m ≡ subregion.Refused why → why ≡ Unrepresentable
+refused-as (rect.Is r) why e = cc
+refused-as rect.No why e = cc
+
+flood-refusal : (b : MaybeRect) (c : Rect) (why : Refusal) → floodIn b c ≡ subregion.Refused why → why ≡ Unrepresentable
+flood-refusal (rect.Is b) c why e = refused-as (placed c b) why e
+flood-refusal rect.No c why e = cc
+
+child-refusal : (flood : Bool) (f : Frame) (m : MaybeRect) (why : Refusal) → placedChild flood f m ≡ subregion.Refused why → why ≡ Unrepresentable
+child-refusal true f rect.No why e = cc
+child-refusal false f rect.No why e = cc
+child-refusal true f (rect.Is c) why e = flood-refusal (f .bbox) c why e
+child-refusal false f (rect.Is c) why e = refused-as (placed (f .region) c) why e
+
+user-refusal : (m : MaybeRect) (why : Refusal) → orEnds m ≡ subregion.Refused why → why ≡ Unrepresentable
+user-refusal (rect.Is r) why e = cc
+user-refusal rect.No why e = cc
+
+pub subregion-refusal : (f : Frame) (n : Node) (why : Refusal) → regionOf f n ≡ subregion.Refused why → why ≡ Unrepresentable
+unfolding regionOf userSpaceRegion bboxRegion
+subregion-refusal f n why e = go (f .units) e
+  where
+    go : (u : Units) → byUnits u (userSpaceRegion f n) (bboxRegion f n) ≡ subregion.Refused why → why ≡ Unrepresentable
+    go units.UserSpaceOnUse e = user-refusal (childRect f n (f .region .left) (f .region .top) (widthOf (f .region)) (heightOf (f .region))) why e
+    go units.ObjectBoundingBox e = child-refusal (eqb (n .tag) EId·FeFlood) f (childRect f n plusZero plusZero one one) why e
+
 -- ---- the child's rectangle
 child-made : (f : Frame) (n : Node) (x y w h : Float) → Made (childRect f n x y w h)
 unfolding childRect
@@ -83,7 +112,7 @@ child-fits f n x y w h s p q =
     fits-size (valueOr f n AId·X x) (valueOr f n AId·Y y) (valueOr f n AId·Width w) (valueOr f n AId·Height h) (value-fits f n AId·X x s p) (value-fits f n AId·Y y s q)
 
 -- ---- a subregion exists, and f32 holds its edges; its numbers, width and height included, are finite
-pub subregion-made : (f : Frame) (n : Node) (q : Rect) → regionOf f n ≡ subregion.Is q → T (isRect q)
+subregion-made : (f : Frame) (n : Node) (q : Rect) → regionOf f n ≡ subregion.Is q → T (isRect q)
 subregion-made f n q e = region-all (λ (r : Rect). T (isRect r)) made-placed f n (child-made f n (f .region .left) (f .region .top) (widthOf (f .region)) (heightOf (f .region))) q e
 
 pub subregion-fits : (f : Frame) (n : Node) (q : Rect) → SoundFrame f → regionOf f n ≡ subregion.Is q → EdgesFit q

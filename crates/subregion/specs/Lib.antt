@@ -1,2 +1,1 @@
 pub mod Subregions
-pub mod Cases

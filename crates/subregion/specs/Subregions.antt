@@ -2,8 +2,9 @@
 use Prim.Native.Nat.{ℕ}
 use mathlib.Core.Bool.{Bool, true, false}
 use lib.Dec.{eqb}
-use lib.Ieee.{Float, binary32, ofBits}
-use Rattle.num.specs.Narrowed.{plusZero}
+use lib.Ieee.{Float}
+use Rattle.answer.specs.declared.Refusal.the-variants.{Unrepresentable}
+use Rattle.num.specs.Constants.{plusZero, one}
 use Rattle.geom.specs.declared.Rect.{Rect}
 use Rattle.geom.specs.declared.Size.{Size}
 use Rattle.geom.specs.declared.MaybeRect.{MaybeRect}
@@ -14,14 +15,11 @@ use Rattle.svgtree.specs.Values.{Node}
 use Rattle.svgtree.specs.Readers.{orElse}
 use Rattle.units.specs.declared.Units.{Units}
 use Rattle.units.specs.declared.Units.the-variants as units
-use Rattle.units.specs.declared.Frame.{Frame}
 use Rattle.units.specs.Lengths.{tryConvertLength}
+use Rattle.region.specs.declared.Frame.{Frame}
+use Rattle.subregion.specs.declared.Defaults.{Defaults}
 use Rattle.subregion.specs.declared.Subregion.{Subregion}
 use Rattle.subregion.specs.declared.Subregion.the-variants as subregion
-
--- 1
-abbrev pub one : Float
-one = ofBits binary32 0x3f80_0000
 
 -- ---- the child's rectangle
 
@@ -34,15 +32,15 @@ unfoldable pub childRect : Frame → Node → (x y width height : Float) → May
 childRect frame n x y width height =
     ofSize (valueOr frame n AId·X x) (valueOr frame n AId·Y y) (valueOr frame n AId·Width width) (valueOr frame n AId·Height height)
 
--- no rectangle: the chain ends before this child
+-- no rectangle: the chain ends before this child. That is no refusal: what stands before it is kept.
 abbrev pub orEnds : MaybeRect → Subregion
 orEnds (rect.Is r) = subregion.Is r
 orEnds rect.No = subregion.Ends
 
--- "a placing makes no rectangle"
-abbrev pub orUnplaced : MaybeRect → Subregion
-orUnplaced (rect.Is r) = subregion.Is r
-orUnplaced rect.No = subregion.Unplaced
+-- "a placing makes no rectangle": a refusal
+abbrev pub orRefused : MaybeRect → Subregion
+orRefused (rect.Is r) = subregion.Is r
+orRefused rect.No = subregion.Refused Unrepresentable
 
 -- ---- userSpaceOnUse: "absent values come from the region"
 
@@ -50,26 +48,32 @@ unfoldable pub userSpaceRegion : Frame → Node → Subregion
 userSpaceRegion frame n =
     orEnds (childRect frame n (frame .region .left) (frame .region .top) (widthOf (frame .region)) (heightOf (frame .region)))
 
--- ---- objectBoundingBox. The W3C document measures every subregion from the object's bounding box. The crate does so for feFlood alone; for the
--- other kinds it places the filter region in the child's rectangle, as if that rectangle were the bounding box.
+-- ---- objectBoundingBox. The document: x, y, width and height are fractions of the object's bounding box, and what is absent comes from the filter
+-- region. The crate: so for feFlood alone, with 0, 0, 1, 1 for what is absent; for every other kind it places the filter region in the child's
+-- rectangle, as if that rectangle were the bounding box.
 
 -- "feFlood is placed in the object's box". Without a box the chain ends; but then no child is converted at all (number 8).
 abbrev pub floodIn : (bbox : MaybeRect) (child : Rect) → Subregion
-floodIn (rect.Is b) child = orUnplaced (placed child b)
+floodIn (rect.Is b) child = orRefused (placed child b)
 floodIn rect.No child = subregion.Ends
 
 -- "Other kinds place the filter region in the child's rectangle". In the crate feImage goes with feFlood; a sheet with an feImage is refused
 -- before (number 4).
-abbrev pub childIn : (flood : Bool) → Frame → (child : MaybeRect) → Subregion
-childIn flood frame rect.No = subregion.Ends
-childIn true frame (rect.Is child) = floodIn (frame .bbox) child
-childIn false frame (rect.Is child) = orUnplaced (placed (frame .region) child)
+abbrev pub placedChild : (flood : Bool) → Frame → (child : MaybeRect) → Subregion
+placedChild flood frame rect.No = subregion.Ends
+placedChild true frame (rect.Is child) = floodIn (frame .bbox) child
+placedChild false frame (rect.Is child) = orRefused (placed (frame .region) child)
 
 -- "absent: 0, 0, 1, 1"
 unfoldable pub bboxRegion : Frame → Node → Subregion
-bboxRegion frame n = childIn (eqb (n .tag) EId·FeFlood) frame (childRect frame n plusZero plusZero one one)
+bboxRegion frame n = placedChild (eqb (n .tag) EId·FeFlood) frame (childRect frame n plusZero plusZero one one)
 
 -- ---- by primitiveUnits
+
+-- what the two take for an absent x, y, width and height
+abbrev pub defaultsIn : Units → (region : Rect) → Defaults
+defaultsIn units.UserSpaceOnUse region = record { x = region .left; y = region .top; width = widthOf region; height = heightOf region }
+defaultsIn units.ObjectBoundingBox region = record { x = plusZero; y = plusZero; width = one; height = one }
 
 abbrev pub byUnits : Units → (userSpace bbox : Subregion) → Subregion
 byUnits units.UserSpaceOnUse userSpace bbox = userSpace
@@ -77,12 +81,6 @@ byUnits units.ObjectBoundingBox userSpace bbox = bbox
 
 unfoldable pub regionOf : Frame → Node → Subregion
 regionOf frame n = byUnits (frame .units) (userSpaceRegion frame n) (bboxRegion frame n)
-
--- the table's number for each answer: 6 where "a placing makes no rectangle". No rectangle is no refusal: what stands before the child is kept.
-abbrev pub subregionNumber : Subregion → ℕ
-subregionNumber (subregion.Is r) = 0
-subregionNumber subregion.Ends = 0
-subregionNumber subregion.Unplaced = 6
 
 -- ---- what a child's numbers are multiplied by: the size of the object's bounding box in objectBoundingBox units, and else 1 by 1
 

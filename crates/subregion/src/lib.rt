@@ -1,57 +1,107 @@
 // The filter primitive subregion of a child, `resolve_primitive_region` of filter.rs, and the scale of a child's numbers, from its `collect_children`.
 ghost use mathlib.Core.Path.{_≡_};
+ghost use lib.Dec.{eqb};
 ghost use Rattle.geom.specs.Geometry.{placed};
+ghost use Rattle.names.specs.Ids.{EId·FeFlood};
 ghost use Rattle.svgtree.specs.Parse.{nodeFrom};
-ghost use Rattle.subregion.specs.Subregions.{valueOr, childRect, orEnds, orUnplaced, floodIn, userSpaceRegion, bboxRegion, regionOf, sizeIn, scaleOf};
+ghost use Rattle.svgtree.specs.Readers.{orElse};
+ghost use Rattle.units.specs.Lengths.{converted};
+ghost use Rattle.subregion.specs.Subregions.{defaultsIn, childRect, orRefused, floodIn, placedChild, regionOf, sizeIn, scaleOf};
+use answer::Refusal;
 use geom::MaybeRect;
 use geom::Rect;
 use geom::Size;
 use names::aid;
 use names::eid;
-use svgtree::MaybeNumber;
+use region::Frame;
+use svgtree::MaybeLength;
+use svgtree::font_size;
+use svgtree::sides::sides_of;
 use svgtree::tag;
-use units::Frame;
+use units::State;
 use units::Units;
-use units::try_convert_length;
+use units::convert_length;
 
-// A child's subregion; or that the chain of children ends before it, since it has no rectangle; or that placing made none (the crate panics).
-// `subregionNumber` of specs/ gives the refusal's number.
+// A child's subregion; or that the chain of children ends before it, since it has no rectangle; or a refusal, where placing made none (the crate
+// panics).
 pub enum Subregion {
     Is(Rect),
     Ends,
-    Unplaced,
+    Refused(Refusal),
 }
 
-// An attribute of the child in primitiveUnits, or this default where it is absent.
-fn value_or(s: &[u8], at: u16, aid: u16, frame: Frame, def: f32) -> f32
-    ensures { λ r. ⌜ r ≡ valueOr frame (nodeFrom (now (s .entry)) at) aid def ⌝ }
+// What stands for a child's x, y, width and height where they are absent.
+struct Defaults {
+    x: f32,
+    y: f32,
+    width: f32,
+    height: f32,
+}
+
+fn defaults_of(frame: Frame) -> Defaults
+    ensures { λ r. ⌜ r ≡ defaultsIn (frame .units) (frame .region) ⌝ }
 {
     let units = frame.units;
-    let found = try_convert_length(s, at, aid, units, frame.state);
+    let region = frame.region;
+    match units {
+        Units::UserSpaceOnUse => Defaults {
+            x: region.x(),
+            y: region.y(),
+            width: region.width(),
+            height: region.height(),
+        },
+        Units::ObjectBoundingBox => Defaults {
+            x: 0.0,
+            y: 0.0,
+            width: 1.0,
+            height: 1.0,
+        },
+    }
+}
+
+// A length of the child in primitiveUnits, or this default where it is absent.
+fn value_or(
+    found: MaybeLength,
+    aid: u16,
+    units: Units,
+    state: State,
+    font_size: f32,
+    def: f32,
+) -> f32
+    ensures { λ r. ⌜ r ≡ orElse (converted found aid units state «font_size») def ⌝ }
+{
     match found {
-        MaybeNumber::Is(x) => x,
-        MaybeNumber::No => def,
+        MaybeLength::Is(length) => convert_length(length, aid, units, state, font_size),
+        MaybeLength::No => def,
     }
 }
 
 // The child's rectangle, with these numbers where an attribute is absent.
-fn child_rect(s: &[u8], at: u16, frame: Frame, x: f32, y: f32, width: f32, height: f32) -> MaybeRect
-    ensures { λ r. ⌜ r ≡ childRect frame (nodeFrom (now (s .entry)) at) x y width height ⌝ }
+fn child_rect(s: &[u8], at: u16, frame: Frame, def: Defaults) -> MaybeRect
+    ensures { λ r. ⌜ r ≡ childRect frame (nodeFrom (now (s .entry)) at) (def .x) (def .y) (def .width) (def .height) ⌝ }
 {
-    let x = value_or(s, at, aid::X, frame, x);
-    let y = value_or(s, at, aid::Y, frame, y);
-    let width = value_or(s, at, aid::WIDTH, frame, width);
-    let height = value_or(s, at, aid::HEIGHT, frame, height);
+    let units = frame.units;
+    let state = frame.state;
+    let font = font_size(s, at);
+    let sides = sides_of(s, at);
+    let x = sides.x;
+    let y = sides.y;
+    let width = sides.width;
+    let height = sides.height;
+    let x = value_or(x, aid::X, units, state, font, def.x);
+    let y = value_or(y, aid::Y, units, state, font, def.y);
+    let width = value_or(width, aid::WIDTH, units, state, font, def.width);
+    let height = value_or(height, aid::HEIGHT, units, state, font, def.height);
     Rect::from_xywh(x, y, width, height)
 }
 
 fn place(rect: Rect, bbox: Rect) -> Subregion
-    ensures { λ r. ⌜ r ≡ orUnplaced (placed rect bbox) ⌝ }
+    ensures { λ r. ⌜ r ≡ orRefused (placed rect bbox) ⌝ }
 {
     let placed = rect.bbox_transform(bbox);
     match placed {
         MaybeRect::Is(r) => Subregion::Is(r),
-        MaybeRect::No => Subregion::Unplaced,
+        MaybeRect::No => Subregion::Refused(Refusal::Unrepresentable),
     }
 }
 
@@ -64,13 +114,10 @@ fn place_flood(child: Rect, bbox: MaybeRect) -> Subregion
     }
 }
 
-fn region_in_bbox_units(s: &[u8], at: u16, frame: Frame) -> Subregion
-    ensures { λ r. ⌜ r ≡ bboxRegion frame (nodeFrom (now (s .entry)) at) ⌝ }
+// A child with this rectangle in objectBoundingBox units.
+fn place_child(s: &[u8], at: u16, frame: Frame, child: Rect) -> Subregion
+    ensures { λ r. ⌜ r ≡ placedChild (eqb (nodeFrom (now (s .entry)) at .tag) EId·FeFlood) frame (MaybeRect.Is child) ⌝ }
 {
-    let made = child_rect(s, at, frame, 0.0, 0.0, 1.0, 1.0);
-    let MaybeRect::Is(child) = made else {
-        return Subregion::Ends;
-    };
     if tag(s, at) == eid::FE_FLOOD {
         let bbox = frame.bbox;
         return place_flood(child, bbox);
@@ -78,32 +125,18 @@ fn region_in_bbox_units(s: &[u8], at: u16, frame: Frame) -> Subregion
     place(frame.region, child)
 }
 
-fn region_in_user_space(s: &[u8], at: u16, frame: Frame) -> Subregion
-    ensures { λ r. ⌜ r ≡ userSpaceRegion frame (nodeFrom (now (s .entry)) at) ⌝ }
-{
-    let region = frame.region;
-    let made = child_rect(
-        s,
-        at,
-        frame,
-        region.x(),
-        region.y(),
-        region.width(),
-        region.height(),
-    );
-    match made {
-        MaybeRect::Is(r) => Subregion::Is(r),
-        MaybeRect::No => Subregion::Ends,
-    }
-}
-
 pub fn resolve_primitive_region(s: &[u8], at: u16, frame: Frame) -> Subregion
     ensures { λ r. ⌜ r ≡ regionOf frame (nodeFrom (now (s .entry)) at) ⌝ }
 {
+    let def = defaults_of(frame);
+    let made = child_rect(s, at, frame, def);
+    let MaybeRect::Is(child) = made else {
+        return Subregion::Ends;
+    };
     let units = frame.units;
     match units {
-        Units::UserSpaceOnUse => region_in_user_space(s, at, frame),
-        Units::ObjectBoundingBox => region_in_bbox_units(s, at, frame),
+        Units::UserSpaceOnUse => Subregion::Is(child),
+        Units::ObjectBoundingBox => place_child(s, at, frame, child),
     }
 }
 

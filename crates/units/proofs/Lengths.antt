@@ -8,7 +8,8 @@ use lib.Ieee.{Float, binary32, mul, div, ofBits, fits}
 use lib.Ieee.Scale.{finite}
 use lib.Ieee.Fits.{mul-fits, div-fits}
 use Rattle.num.specs.Narrowed.{narrowed, orZero}
-use Rattle.num.proofs.Laws.{Num, nonzero, finite-num, mul-num, div-num}
+use Rattle.num.specs.Numbers.{IsNumber}
+use Rattle.num.proofs.Laws.{nonzero, finite-num, mul-num, div-num}
 use Rattle.num.proofs.Finite.{narrowed-fits, orZero-finite, orZero-fits}
 use Rattle.names.specs.Ids.{AId·Y, AId·Height}
 use Rattle.svgtree.specs.declared.LengthUnit.{LengthUnit}
@@ -23,7 +24,8 @@ use Rattle.svgtree.specs.Readers.{lengthIn, lookup, fontSizeOf}
 use Rattle.units.specs.declared.Units.{Units}
 use Rattle.units.specs.declared.Units.the-variants as units
 use Rattle.units.specs.declared.State.{State}
-use Rattle.units.specs.Lengths.{two, cmPerInch, mmPerInch, ptPerInch, pcPerInch, hundred, percentBase, percentOf, ofUnit, convertLength, converted, tryConvertLength, resolveNumber}
+use Rattle.num.specs.Constants.{two}
+use Rattle.units.specs.Lengths.{cmPerInch, mmPerInch, ptPerInch, pcPerInch, hundred, percentBase, percentOf, ofUnit, convertLength, converted, tryConvertLength, resolveNumber}
 
 -- a state of finite numbers
 pub record FiniteState (state : State) : Type 0 where
@@ -33,7 +35,7 @@ pub record FiniteState (state : State) : Type 0 where
 
 -- a number that is no NaN and that f32 holds
 pub record Single (x : Float) : Type 0 where
-  pub no-nan : Num x
+  pub no-nan : IsNumber x
   pub fits32 : T (fits binary32 x)
 
 -- a length as it is read: its number is finite and f32 holds it
@@ -45,7 +47,7 @@ pub record ReadLength (l : Length) : Type 0 where
 times : (a b : Float) → T (finite a) → T (finite b) → Single (mul binary32 a b)
 times a b p q = record { no-nan = mul-num binary32 a b p q; fits32 = mul-fits binary32 a b }
 
-over : (x k : Float) → Num x → T (nonzero k) → Single (div binary32 x k)
+over : (x k : Float) → IsNumber x → T (nonzero k) → Single (div binary32 x k)
 over x k p q = record { no-nan = div-num binary32 x k p q; fits32 = div-fits binary32 x k }
 
 percent-single : (u : Units) (n base : Float) → T (finite n) → T (finite base) → Single (percentOf u n base)

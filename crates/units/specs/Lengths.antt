@@ -19,11 +19,9 @@ use Rattle.svgtree.specs.Readers.{lengthOf, fontSizeOf}
 use Rattle.units.specs.declared.Units.{Units}
 use Rattle.units.specs.declared.Units.the-variants as units
 use Rattle.units.specs.declared.State.{State}
+use Rattle.num.specs.Constants.{two}
 
--- the numbers of the formulas, by their f32 bits: 2, 2.54, 25.4, 72, 6, 100, -10, 120
-abbrev pub two : Float
-two = ofBits binary32 0x4000_0000
-
+-- the numbers of the formulas, by their f32 bits: 2.54, 25.4, 72, 6 and 100
 abbrev pub cmPerInch : Float
 cmPerInch = ofBits binary32 0x4022_8f5c
 
@@ -39,12 +37,6 @@ pcPerInch = ofBits binary32 0x40c0_0000
 abbrev pub hundred : Float
 hundred = ofBits binary32 0x42c8_0000
 
-abbrev pub minusTen : Float
-minusTen = ofBits binary32 0xc120_0000
-
-abbrev pub hundredTwenty : Float
-hundredTwenty = ofBits binary32 0x42f0_0000
-
 -- "the base being view box width (x, width, dx) or height": the height for y and height. No other attribute is converted (the crate takes
 -- the view box's diagonal for others).
 abbrev pub percentBase : ℕ → Size → Float
@@ -55,7 +47,8 @@ abbrev pub percentOf : Units → (n base : Float) → Float
 percentOf units.ObjectBoundingBox n base = div binary32 n hundred
 percentOf units.UserSpaceOnUse n base = div binary32 (mul binary32 base n) hundred
 
--- n of a unit, with the resolution, the font size and what n percent is. "1 in at 96 dpi is 96"; an ex is half an em.
+-- n of a unit, with the resolution, the font size and what n percent is. "1 in at 96 dpi is 96". The document (by CSS): an inch is 96 px, and an ex is the
+-- x-height of the font. The crate: an inch is as many px as the resolution says, cm, mm, pt and pc go by the inch, and an ex is half an em.
 abbrev pub ofUnit : LengthUnit → (n dpi fontSize percentage : Float) → Float
 ofUnit unit.None n dpi fontSize percentage = n
 ofUnit unit.Em n dpi fontSize percentage = mul binary32 n fontSize

@@ -11,10 +11,7 @@ returns-2 : tie.Need-returns-2
 returns-2 c = (rw (c .enum-told .given .1), omega arith)
 
 returns-3 : tie.Need-returns-3
-returns-3 c = (rw (c .enum-told2 .given .1), omega arith)
-
-returns-4 : tie.Need-returns-4
-returns-4 c = (rw (c .enum-told3 .given .1), omega arith)
+returns-3 c = (rw (c .before .made2 .given .1), omega arith)
 
 pub kind-step-spec : {M : Type 1} → statement M
 kind-step-spec =
@@ -25,8 +22,6 @@ kind-step-spec =
     (λ c κs. search needs)
     (λ c. search needs)
     (λ c. search needs)
-    (λ c. search needs)
     returns
     returns-2
-    returns-3
-    returns-4)
+    returns-3)

@@ -1,4 +1,4 @@
--- The region decides first; with one, the kind of the element and its children does. Assumes nothing.
+-- The region decides; with one, what the element's kind and its children gave does. Assumes nothing.
 use native.Mathlib.Omega.{arith}
 use denote.Ref.{now}
 use mathlib.Core.Path.{ap, _∙_}
@@ -9,29 +9,30 @@ use borrow.Author.Needs.{needs}
 use Rattle.chain.proofs.region_step.Statement.{statement}
 use Rattle.chain.proofs.region_step.Tie as tie
 
-kind-of-requires : tie.Need-kind-of-requires
-kind-of-requires c κs = omega (arith, c .children .ensures .within, c .before .before .before .before .before .before .pre)
-
 returns : tie.Need-returns
 returns c =
-    let a = c .before .before .before .before .before .before .before .before .args in
+    let start = c .before .before .before .before .before .before .before .before in
+    let a = start .args in
     let n = nodeFrom (now (a .s)) (a .at) in
-    (rw (← c .before .before .before .before .before .before .resolve-primitive-region .ensures, c .before .before .before .before .region .given .1) (c .kind-step .ensures .0 ∙ ap (kindStep n (c .before .before .before .before .region .given .0 .0)) (c .before .kind-of .ensures .0 ∙ ap (kindOf (a .frame) n) (c .before .before .children .ensures .nodes))), omega (arith, c .kind-step .ensures .1, c .before .kind-of .ensures .1, c .before .before .children .ensures .within, c .before .before .before .before .before .before .before .before .pre))
+    let rect = c .before .before .region .given in
+    let made = c .before .before .before .before .before .kind-of .ensures in
+    let below = c .before .before .before .before .before .before .children .ensures in
+    (rw (← c .before .before .before .before .resolve-primitive-region .ensures, rect .1) (c .kind-step .ensures .0 ∙ ap (kindStep n (rect .0 .0)) (made .exact ∙ ap (kindOf (a .frame) n) (below .nodes))), omega (arith, c .kind-step .ensures .1, made .within, below .within, start .pre))
 
 returns-2 : tie.Need-returns-2
 returns-2 c = (rw (← c .before .before .resolve-primitive-region .ensures, c .enum-told .given .1), omega arith)
 
 returns-3 : tie.Need-returns-3
-returns-3 c = (rw (← c .before .before .resolve-primitive-region .ensures, c .enum-told2 .given .1), omega arith)
+returns-3 c = (rw (← c .before .before .before .resolve-primitive-region .ensures, c .before .region2 .given .1), omega arith)
 
 pub region-step-spec : {M : Type 1} → statement M
 region-step-spec =
     tie.close
     (tie.spec
     (λ c κs. search needs)
-    (λ c. search needs)
     (λ c κs. search needs)
-    kind-of-requires
+    (λ c κs. search needs)
+    (λ c. search needs)
     (λ c κs. search needs)
     (λ c. search needs)
     (λ c. search needs)

@@ -21,9 +21,6 @@ returns-3 c = (rw (← c .before .before .before .step-of .ensures .0, c .before
 returns-4 : tie.Need-returns-4
 returns-4 c = (rw (← c .before .before .before .step-of .ensures .0, c .before .enum-told3 .given .1) (c .no-child3 .ensures .0), c .no-child3 .ensures .1)
 
-returns-5 : tie.Need-returns-5
-returns-5 c = (rw (← c .before .before .before .step-of .ensures .0, c .before .enum-told4 .given .1) (c .no-child4 .ensures .0), c .no-child4 .ensures .1)
-
 pub child-of-spec : {M : Type 1} → statement M
 child-of-spec =
     tie.close
@@ -36,10 +33,7 @@ child-of-spec =
     (λ c κs. search needs)
     (λ c. search needs)
     (λ c κs. search needs)
-    (λ c. search needs)
-    (λ c κs. search needs)
     returns
     returns-2
     returns-3
-    returns-4
-    returns-5)
+    returns-4)

@@ -21,27 +21,39 @@ abbrev μ-loop : tie.MeasureT-loop
 μ-loop s frame nodes names records out₀ at o₀ j₀ out o j = records - j
 
 loop-holds : tie.Need-loop-holds Inv-loop μ-loop
-loop-holds c = (search needs, search needs, rw (records-none (c .before .before .args .frame) (now (c .before .before .args .s)) (now (c .before .before .args .nodes)) (now (c .before .before .args .names))) (put-none (now (c .before .before .args .out)) (c .before .before .args .at)))
+loop-holds c =
+    let a = c .before .before .args in
+    (search needs, search needs, rw (records-none (a .frame) (now (a .s)) (now (a .nodes)) (now (a .names))) (put-none (now (a .out)) (a .at)))
 
 child-of-requires : tie.Need-child-of-requires Inv-loop μ-loop
 child-of-requires c κs = (rw (c .before .before .before .wide16 .ensures .0) (c .before .before .before .before .before .before .before .before .pre .0 .2 .below (c .before .before .before .before .before .loop .j) (c .before .before .before .before .loop-test .taken)), c .before .before .before .before .before .before .before .before .pre .0 .1)
 
 put-primitive-requires : tie.Need-put-primitive-requires Inv-loop μ-loop
 put-primitive-requires c κs =
+    let a = c .before .before .before .before .before .before .before .before .before .before .args in
+    let f = a .frame in
+    let s = now (a .s) in
+    let nodes = now (a .nodes) in
+    let names = now (a .names) in
     let l = c .before .before .before .before .before .before .before .loop in
     let q = rw (c .before .before .before .before .before .wide16 .ensures .0) at (c .before .child-of .ensures .0) in
-    let n = rw (c .before .before .before .before .before .wide16 .ensures .0) at (c .before .before .before .name-of .ensures .exact (now (c .before .before .before .before .before .before .before .before .before .before .args .s))) in
-    let e = same-record (c .before .before .before .before .before .before .before .before .before .before .args .frame) (now (c .before .before .before .before .before .before .before .before .before .before .args .s)) (now (c .before .before .before .before .before .before .before .before .before .before .args .nodes)) (now (c .before .before .before .before .before .before .before .before .before .before .args .names)) (c .before .child-of .result) (c .before .before .before .name-of .result) (getD (now (c .before .before .before .before .before .before .before .before .before .before .args .nodes)) (l .j) 0) (l .j) q n in
-    let h = room (recordsUpTo (c .before .before .before .before .before .before .before .before .before .before .args .frame) (now (c .before .before .before .before .before .before .before .before .before .before .args .s)) (now (c .before .before .before .before .before .before .before .before .before .before .args .nodes)) (now (c .before .before .before .before .before .before .before .before .before .before .args .names))) (recordNext (c .before .before .before .before .before .before .before .before .before .before .args .frame) (now (c .before .before .before .before .before .before .before .before .before .before .args .s)) (now (c .before .before .before .before .before .before .before .before .before .before .args .nodes)) (now (c .before .before .before .before .before .before .before .before .before .before .args .names))) (records-step (c .before .before .before .before .before .before .before .before .before .before .args .frame) (now (c .before .before .before .before .before .before .before .before .before .before .args .s)) (now (c .before .before .before .before .before .before .before .before .before .before .args .nodes)) (now (c .before .before .before .before .before .before .before .before .before .before .args .names))) (l .j) (c .before .before .before .before .before .before .before .before .before .before .args .records) (c .before .before .before .before .before .before .loop-test .taken) in
+    let n = rw (c .before .before .before .before .before .wide16 .ensures .0) at (c .before .before .before .name-of .ensures .exact s) in
+    let e = same-record f s nodes names (c .before .child-of .result) (c .before .before .before .name-of .result) (getD nodes (l .j) 0) (l .j) q n in
+    let h = room (recordsUpTo f s nodes names) (recordNext f s nodes names) (records-step f s nodes names) (l .j) (a .records) (c .before .before .before .before .before .before .loop-test .taken) in
     ((table-first (c .before .before .before .before .before .before .before .before .before .before .pre .0 .0) (l .j) (omega (arith, c .before .before .before .before .before .before .loop-test .taken)), c .before .child-of .ensures .1), rw e (omega (arith, h, l .inv .1, l .inv .2 .next, c .before .before .before .before .before .before .before .before .before .before .pre .1)))
 
 loop-again : tie.Need-loop-again Inv-loop μ-loop
 loop-again c =
+    let a = c .before .before .before .before .before .before .before .before .before .before .before .before .before .args in
+    let f = a .frame in
+    let s = now (a .s) in
+    let nodes = now (a .nodes) in
+    let names = now (a .names) in
     let l = c .before .before .before .before .before .before .before .before .before .before .loop in
     let q = rw (c .before .before .before .before .before .before .before .before .wide16 .ensures .0) at (c .before .before .before .before .child-of .ensures .0) in
-    let n = rw (c .before .before .before .before .before .before .before .before .wide16 .ensures .0) at (c .before .before .before .before .before .before .name-of .ensures .exact (now (c .before .before .before .before .before .before .before .before .before .before .before .before .before .args .s))) in
-    let e = same-record (c .before .before .before .before .before .before .before .before .before .before .before .before .before .args .frame) (now (c .before .before .before .before .before .before .before .before .before .before .before .before .before .args .s)) (now (c .before .before .before .before .before .before .before .before .before .before .before .before .before .args .nodes)) (now (c .before .before .before .before .before .before .before .before .before .before .before .before .before .args .names)) (c .before .before .before .before .child-of .result) (c .before .before .before .before .before .before .name-of .result) (getD (now (c .before .before .before .before .before .before .before .before .before .before .before .before .before .args .nodes)) (l .j) 0) (l .j) q n in
-    (search needs, search needs, put-more (recordsUpTo (c .before .before .before .before .before .before .before .before .before .before .before .before .before .args .frame) (now (c .before .before .before .before .before .before .before .before .before .before .before .before .before .args .s)) (now (c .before .before .before .before .before .before .before .before .before .before .before .before .before .args .nodes)) (now (c .before .before .before .before .before .before .before .before .before .before .before .before .before .args .names))) (recordNext (c .before .before .before .before .before .before .before .before .before .before .before .before .before .args .frame) (now (c .before .before .before .before .before .before .before .before .before .before .before .before .before .args .s)) (now (c .before .before .before .before .before .before .before .before .before .before .before .before .before .args .nodes)) (now (c .before .before .before .before .before .before .before .before .before .before .before .before .before .args .names))) (records-step (c .before .before .before .before .before .before .before .before .before .before .before .before .before .args .frame) (now (c .before .before .before .before .before .before .before .before .before .before .before .before .before .args .s)) (now (c .before .before .before .before .before .before .before .before .before .before .before .before .before .args .nodes)) (now (c .before .before .before .before .before .before .before .before .before .before .before .before .before .args .names))) _ _ _ _ _ _ (l .j) (l .inv .2) (rw e at (c .before .before .put-primitive .ensures)))
+    let n = rw (c .before .before .before .before .before .before .before .before .wide16 .ensures .0) at (c .before .before .before .before .before .before .name-of .ensures .exact s) in
+    let e = same-record f s nodes names (c .before .before .before .before .child-of .result) (c .before .before .before .before .before .before .name-of .result) (getD nodes (l .j) 0) (l .j) q n in
+    (search needs, search needs, put-more (recordsUpTo f s nodes names) (recordNext f s nodes names) (records-step f s nodes names) _ _ _ _ _ _ (l .j) (l .inv .2) (rw e at (c .before .before .put-primitive .ensures)))
 
 returns : tie.Need-returns Inv-loop μ-loop
 returns c =

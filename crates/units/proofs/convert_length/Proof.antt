@@ -1,5 +1,4 @@
 -- `units::convert_length` meets its contract: each arm is the definition's formula for its unit, and the percentage's arm is what its two callees give. Assumes nothing.
-use Rattle.units.proofs.Same.{percent-length}
 use Rattle.units.specs.Lengths.{convertLength}
 use borrow.Author.Needs.{needs}
 use Rattle.units.proofs.convert_length.Statement.{statement}
@@ -42,7 +41,8 @@ unfolding convertLength
 returns-9 c = cc
 
 returns-10 : tie.Need-returns-10
-returns-10 c = percent-length (c .before .before .before .before .args .length) (c .before .before .before .before .args .aid) (c .before .before .before .before .args .units) (c .before .before .before .before .args .state) (c .before .before .before .before .args .font-size) (c .before .percent-base .result) (c .convert-percent .result) (c .before .before .enum-told10 .given .1) (c .before .percent-base .ensures) (c .convert-percent .ensures)
+unfolding convertLength
+returns-10 c = rw (c .before .before .enum-told10 .given .1, ← c .before .percent-base .ensures) (c .convert-percent .ensures)
 
 pub convert-length-spec : {M : Type 1} → statement M
 convert-length-spec =
