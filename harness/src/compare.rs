@@ -1,6 +1,6 @@
 //! One call of the library held against the answer that is wanted: number, length, the bytes written, the bytes not written.
 
-use crate::library;
+use crate::{library, reader};
 
 #[derive(Clone, Copy, PartialEq, Debug)]
 pub enum Call {
@@ -11,7 +11,7 @@ pub enum Call {
 /// What the crate's code says, at its full length.
 pub type Wanted = Result<Vec<u8>, u8>;
 
-/// The output before the call, and bytes before and behind it that are nobody's.
+/// The output before the call, with guard bytes before and behind it.
 pub struct Room {
     area: Vec<u8>,
     pattern: Vec<u8>,
@@ -68,6 +68,9 @@ impl Room {
                 area[GUARD + i],
                 list[i]
             )));
+        }
+        if call == Call::Sheet && number == 0 && !reader::in_layout(&area[GUARD..end]) {
+            return Some(Some("the second reader finds the list outside the layout".to_string()));
         }
         let changed = |i: usize| area[i] != before[i];
         if area[end..] != before[end..] {

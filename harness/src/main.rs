@@ -5,7 +5,10 @@ mod corners;
 mod damage;
 mod generate;
 mod library;
+mod lists;
 mod model;
+mod reader;
+mod real;
 mod records;
 mod rng;
 mod shrink;
@@ -32,8 +35,13 @@ harness [compare] [SHEETS] [--seed N] [--first I] [--trace]
     --trace says which sheet comes next before each call, for a library that doesn't return.
 harness store [FOLDER] [--seed N]
     writes stored answers: data/cases and stdout of the program crate in FOLDER (crates/replay).
+harness lists [FOLDER] [--seed N]
+    writes stored lists and which are in the layout: stdin and stdout of the program crate in FOLDER (crates/read).
 harness speed
-    times the library and the crate's conversion, and prints the tables of docs/SPEED.md.
+    times the library and the crate's conversion, and prints the first two tables of docs/SPEED.md.
+harness real FOLDER [--trace]
+    compares and times the sheets of a folder, which real/sheets.py made of SVG files, and prints the third table.
+    --trace prints a line for each filter. run.sh takes the folders of SVG files instead, and makes the sheets.
 harness hex HEX [OUTPUT LENGTH]
     one sheet: what the crate's code and the library answer.
 harness show [--seed N] [--first I]
@@ -174,6 +182,9 @@ impl Driver {
             if let Some(Some(what)) = self.room.check(Call::Sheet, &bytes, length, &v.answer, salt) {
                 self.report(s, &from(), length, &v.answer, salt, &what);
                 break;
+            }
+            if v.answer.as_ref().is_ok_and(|l| l.len() <= length) {
+                self.tally.lists_read += 1;
             }
         }
         v
@@ -400,7 +411,9 @@ fn run() -> Option<ExitCode> {
     match o.words[0].as_str() {
         "compare" => compare(&o),
         "store" => store::store(o.words.get(1).map_or("crates/replay", |s| s), o.seed),
+        "lists" => lists::lists(o.words.get(1).map_or("crates/read", |s| s), o.seed),
         "speed" => Some(speed::speed()),
+        "real" => real::real(o.words.get(1)?, o.trace),
         "hex" => one(&o),
         "show" => {
             let (s, rule, _) = case(o.seed, o.first);

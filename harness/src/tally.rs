@@ -57,6 +57,8 @@ pub struct Tally {
     pub enums: [[u64; 16]; 16],
     pub primitives: u64,
     pub longest_list: usize,
+    /// Lists of the library's that reader.rs found in the layout.
+    pub lists_read: u64,
     pub longest_sheet: usize,
     /// Attributes on nodes of accepted sheets, by depth and place.
     pub attributes: [Vec<u64>; 2],
@@ -281,6 +283,7 @@ impl Tally {
             self.longest_list
         );
         println!("calls {}, with an output: {}", grouped(self.calls), pairs(&LENGTHS, &self.lengths));
+        println!("lists that the library gave and the second reader found in the layout: {}", grouped(self.lists_read));
         println!("numbers, with an output that suffices:");
         for (n, c) in self.refusals.iter().enumerate() {
             match n {

@@ -3,7 +3,7 @@ ghost use mathlib.Core.Path.{_≡_};
 ghost use Prim.Native.Nat.{_+_, _^_, _≤_, _<_};
 ghost use lib.ListN.{length};
 ghost use Rattle.bits.specs.Patch.{Put};
-ghost use Rattle.list_fields.specs.Parts.{placeIn, inputsIn, fieldsIn};
+ghost use Rattle.list_fields.specs.Means.{placeIn, fieldsIn, InputsOf};
 use bits::MaybeText;
 use bits::put_u8;
 use child::Kind;
@@ -61,7 +61,7 @@ pub fn kind_place(kind: Kind) -> u8
 }
 
 pub fn inputs_of(kind: Kind) -> Inputs
-    ensures { λ r. ⌜ r ≡ inputsIn kind ⌝ }
+    ensures { λ r. ⌜ InputsOf kind r ⌝ }
 {
     match kind {
         Kind::Blend(v) => {

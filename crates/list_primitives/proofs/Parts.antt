@@ -1,67 +1,44 @@
 -- A record's bytes are those of its parts, one after the other. Assumes nothing.
-use mathlib.Core.Path.{_≡_, refl, sym, ap, _∙_, subst}
-use mathlib.Core.List.{List, [], _∷_, _++_, map, append-nil}
+use mathlib.Core.Path.{_≡_, sym, ap, _∙_, subst}
+use mathlib.Core.List.{List, [], _∷_, _++_}
 use Prim.Native.Nat.{ℕ, _+_}
 use native.Mathlib.Omega.{arith}
 use lib.ListN.{length, length-append}
-use Rattle.bits.specs.Bytes.{bytes16}
 use Rattle.bits.specs.Patch.{Put}
 use Rattle.bits.proofs.Patches.{_counted_}
-use Rattle.bits.specs.Texts.{maybeTextIs}
-use Rattle.bits.specs.declared.MaybeText.{MaybeText}
-use Rattle.svgtree.specs.Parse.{nodesFrom}
-use Rattle.tree.specs.Input.{inputBytes, textBytes}
+use Rattle.tree.specs.Input.{textBytes, inputBytes}
 use Rattle.tree.specs.Scalars.{rectBytes}
 use Rattle.tree.specs.Places.{colorInterpolationPlace}
-use Rattle.tree.specs.List.{inputRun, primitiveBytes}
+use Rattle.tree.specs.Kinds.{inputsIn}
+use Rattle.tree.specs.List.{inputsBytes, kindBytes, primitiveBytes}
 use Rattle.tree.proofs.Lengths.{length-rect}
-use Rattle.child.specs.Means.{inOf}
+use Rattle.tree.proofs.Inputs.{bytes-map}
+use Rattle.child.specs.Means.{kindIs}
 use Rattle.child.specs.declared.Child.{Child}
 use Rattle.results.specs.Means.{nameIs}
 use Rattle.results.specs.declared.ResultName.{ResultName}
-use Rattle.list_fields.specs.Parts.{placeIn, inputsIn, inputsBytes, fieldsIn}
-use Rattle.list_fields.specs.declared.Inputs.the-variants as inputs
-use Rattle.list_fields.proofs.Parts.{kind-parts}
-use Rattle.list_primitives.specs.Tables.{inputAt, primitiveAt}
+use Rattle.list_fields.specs.Means.{placeIn, fieldsIn, inputsIs}
+use Rattle.list_fields.specs.declared.Inputs.{Inputs}
+use Rattle.list_fields.proofs.Parts.{place-is}
+use Rattle.list_primitives.specs.Tables.{inputAt, inputBytesAt, primitiveAt}
 
-module _ (s names : List ℕ) (n : ℕ) where
-  abbrev pub oneBytes : MaybeText → List ℕ
-  oneBytes t = inputBytes (inputAt s names n (maybeTextIs s t))
+-- the bytes of the inputs that the code holds
+abbrev pub inputsBytesAt : (s names : List ℕ) → ℕ → Inputs → List ℕ
+inputsBytesAt s names n i = inputsBytes (inputBytesAt s names n) (inputsIs s i)
 
-  pub inputs-none : inputsBytes (inputAt s names n) s inputs.Nothing ≡ []
-  unfolding inputsBytes inputRun
-  inputs-none = refl
+module _ (s names : List ℕ) (n : ℕ) (name : ResultName) (c : Child) where
+  abbrev inputs : List ℕ
+  inputs = inputsBytes (inputBytesAt s names n) (inputsIn (kindIs s (c .kind)))
 
-  pub inputs-one : (t : MaybeText) → inputsBytes (inputAt s names n) s (inputs.One t) ≡ oneBytes t
-  unfolding inputsBytes inputRun
-  inputs-one t = append-nil (oneBytes t)
+  pub primitive-parts : primitiveBytes (primitiveAt s names n name c)
+      ≡ rectBytes (c .rect) ++ (colorInterpolationPlace (c .«color_interpolation») ∷ []) ++ textBytes (nameIs s name) ++ ((placeIn (c .kind) ∷ []) ++ inputs ++ fieldsIn s (c .kind))
+  unfolding primitiveBytes kindBytes
+  primitive-parts =
+      ap (λ (l : List ℕ). rectBytes (c .rect) ++ (colorInterpolationPlace (c .«color_interpolation») ∷ []) ++ textBytes (nameIs s name) ++ l)
+      (bytes-map inputBytes (inputAt s names n) (kindIs s (c .kind)) ∙ ap (λ (k : ℕ). (k ∷ []) ++ inputs ++ fieldsIn s (c .kind)) (sym (place-is s (c .kind))))
 
-  pub inputs-two : (t u : MaybeText) → inputsBytes (inputAt s names n) s (inputs.Two t u) ≡ oneBytes t ++ oneBytes u
-  unfolding inputsBytes inputRun
-  inputs-two t u = ap (λ (l : List ℕ). oneBytes t ++ l) (append-nil (oneBytes u))
-
-  pub inputs-run : (first count : ℕ) → inputsBytes (inputAt s names n) s (inputs.Run first count) ≡ bytes16 count ++ inputRun (map (inputAt s names n) (map inOf (nodesFrom s first count)))
-  unfolding inputsBytes
-  inputs-run first count = refl
-
-  pub length-two : (t u : MaybeText) → length (inputsBytes (inputAt s names n) s (inputs.Two t u)) ≡ length (oneBytes t) + length (oneBytes u)
-  length-two t u = ap length (inputs-two t u) ∙ length-append (oneBytes t) (oneBytes u)
-
-  pub length-run : (first count : ℕ) → length (inputsBytes (inputAt s names n) s (inputs.Run first count)) ≡ 2 + length (inputRun (map (inputAt s names n) (map inOf (nodesFrom s first count))))
-  unfolding bytes16
-  length-run first count = ap length (inputs-run first count) ∙ length-append (bytes16 count) (inputRun (map (inputAt s names n) (map inOf (nodesFrom s first count))))
-
-  module _ (name : ResultName) (c : Child) where
-    pub primitive-parts : primitiveBytes (primitiveAt s names n name c)
-        ≡ rectBytes (c .rect) ++ (colorInterpolationPlace (c .«color_interpolation») ∷ []) ++ textBytes (nameIs s name) ++ ((placeIn (c .kind) ∷ []) ++ inputsBytes (inputAt s names n) s (inputsIn (c .kind)) ++ fieldsIn s (c .kind))
-    unfolding primitiveBytes
-    primitive-parts =
-        ap (λ (l : List ℕ). rectBytes (c .rect) ++ (colorInterpolationPlace (c .«color_interpolation») ∷ []) ++ textBytes (nameIs s name) ++ l)
-        (kind-parts (inputAt s names n) s (c .kind))
-
-    pub primitive-long : length (primitiveBytes (primitiveAt s names n name c))
-        ≡ 18 + length (textBytes (nameIs s name)) + length (inputsBytes (inputAt s names n) s (inputsIn (c .kind))) + length (fieldsIn s (c .kind))
-    primitive-long = ap length primitive-parts ∙ simp length-append (omega (arith, length-rect (c .rect)))
+  pub primitive-long : length (primitiveBytes (primitiveAt s names n name c)) ≡ 18 + length (textBytes (nameIs s name)) + length inputs + length (fieldsIn s (c .kind))
+  primitive-long = ap length primitive-parts ∙ simp length-append (omega (arith, length-rect (c .rect)))
 
 -- what was written is this, by other words
 pub put-like : {o o′ x y : List ℕ} {at r n : ℕ} → x ≡ y → Put o at n y o′ r → Put o at (length x) x o′ r

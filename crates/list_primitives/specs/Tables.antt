@@ -2,8 +2,7 @@
 use Prim.Native.Nat.{ℕ}
 use mathlib.Core.List.{List}
 use mathlib.Core.Option.{Option}
-use Rattle.tree.specs.Input.{Name, Input}
-use Rattle.tree.specs.Kinds as spec
+use Rattle.tree.specs.Input.{Name, Input, inputBytes}
 use Rattle.tree.specs.Kinds.{Primitive, mapKind}
 use Rattle.child.specs.Means.{kindIs}
 use Rattle.child.specs.declared.Child.{Child}
@@ -14,6 +13,10 @@ use Rattle.results.specs.declared.ResultName.{ResultName}
 -- an input, as it is read and as it is written
 abbrev pub inputAt : (s names : List ℕ) → ℕ → Option Name → Input
 inputAt s names n t = resolve (namesIs s names n) t
+
+-- its bytes
+abbrev pub inputBytesAt : (s names : List ℕ) → ℕ → Option Name → List ℕ
+inputBytesAt s names n t = inputBytes (inputAt s names n t)
 
 -- the primitive of a child under a name
 abbrev pub primitiveAt : (s names : List ℕ) → ℕ → ResultName → Child → Primitive

@@ -7,12 +7,11 @@ ghost use lib.ListN.{length};
 ghost use Rattle.bits.specs.Patch.{Put};
 ghost use Rattle.bits.specs.Texts.{maybeTextIs};
 ghost use Rattle.svgtree.specs.Parse.{nodesFrom};
-ghost use Rattle.tree.specs.Input.{inputBytes};
-ghost use Rattle.tree.specs.List.{inputRun, primitiveBytes};
+ghost use Rattle.tree.specs.List.{inputRun, inputsBytes, primitiveBytes};
 ghost use Rattle.child.specs.Means.{inOf, mergeEnd};
 ghost use Rattle.results.specs.Means.{Table};
-ghost use Rattle.list_fields.specs.Parts.{inputsBytes, inputsEnd};
-ghost use Rattle.list_primitives.specs.Tables.{inputAt, primitiveAt};
+ghost use Rattle.list_fields.specs.Means.{inputsIs, inputsEnd};
+ghost use Rattle.list_primitives.specs.Tables.{inputBytesAt, primitiveAt};
 use bits::MaybeText;
 use bits::put_u8;
 use bits::put_u16;
@@ -38,15 +37,15 @@ use tree::put_rect;
 
 fn one_size(s: &[u8], names: &[u64; 512], n: u16, t: MaybeText) -> u32
     requires { ⌜ Table (now s) (now names) n ⌝ }
-    ensures { λ r. ⌜ (r ≡ length (inputBytes (inputAt (now (s .entry)) (now (names .entry)) n (maybeTextIs (now (s .entry)) t)))) × (r ≤ 258) ⌝ }
+    ensures { λ r. ⌜ (r ≡ length (inputBytesAt (now (s .entry)) (now (names .entry)) n (maybeTextIs (now (s .entry)) t))) × (r ≤ 258) ⌝ }
 {
     input_size(resolve_input(s, names, n, t))
 }
 
 fn put_one(s: &[u8], names: &[u64; 512], n: u16, t: MaybeText, out: &mut [u8], at: usize) -> usize
     requires { ⌜ Table (now s) (now names) n ⌝ }
-    requires { ⌜ at + length (inputBytes (inputAt (now s) (now names) n (maybeTextIs (now s) t))) ≤ length (now out) ⌝ }
-    ensures { λ r. ⌜ Put (now (out .entry)) at (length (inputBytes (inputAt (now (s .entry)) (now (names .entry)) n (maybeTextIs (now (s .entry)) t)))) (inputBytes (inputAt (now (s .entry)) (now (names .entry)) n (maybeTextIs (now (s .entry)) t))) (now (out .exit)) r ⌝ }
+    requires { ⌜ at + length (inputBytesAt (now s) (now names) n (maybeTextIs (now s) t)) ≤ length (now out) ⌝ }
+    ensures { λ r. ⌜ Put (now (out .entry)) at (length (inputBytesAt (now (s .entry)) (now (names .entry)) n (maybeTextIs (now (s .entry)) t))) (inputBytesAt (now (s .entry)) (now (names .entry)) n (maybeTextIs (now (s .entry)) t)) (now (out .exit)) r ⌝ }
 {
     put_input(s, resolve_input(s, names, n, t), out, at)
 }
@@ -55,7 +54,7 @@ fn put_one(s: &[u8], names: &[u64; 512], n: u16, t: MaybeText, out: &mut [u8], a
 
 fn run_size(s: &[u8], names: &[u64; 512], n: u16, first: u16, count: u16) -> u32
     requires { ⌜ Table (now s) (now names) n × (first + count ≤ 512) ⌝ }
-    ensures { λ r. ⌜ (r ≡ length (inputRun (map (inputAt (now (s .entry)) (now (names .entry)) n) (map inOf (nodesFrom (now (s .entry)) first count))))) × (r ≤ 258 * count) ⌝ }
+    ensures { λ r. ⌜ (r ≡ length (inputRun (inputBytesAt (now (s .entry)) (now (names .entry)) n) (map inOf (nodesFrom (now (s .entry)) first count)))) × (r ≤ 258 * count) ⌝ }
 {
     let mut sum: u32 = 0;
     let mut j: u16 = 0;
@@ -77,8 +76,8 @@ fn put_run(
     at: usize,
 ) -> usize
     requires { ⌜ Table (now s) (now names) n × (first + count ≤ 512) ⌝ }
-    requires { ⌜ at + length (inputRun (map (inputAt (now s) (now names) n) (map inOf (nodesFrom (now s) first count)))) ≤ length (now out) ⌝ }
-    ensures { λ r. ⌜ Put (now (out .entry)) at (length (inputRun (map (inputAt (now (s .entry)) (now (names .entry)) n) (map inOf (nodesFrom (now (s .entry)) first count))))) (inputRun (map (inputAt (now (s .entry)) (now (names .entry)) n) (map inOf (nodesFrom (now (s .entry)) first count)))) (now (out .exit)) r ⌝ }
+    requires { ⌜ at + length (inputRun (inputBytesAt (now s) (now names) n) (map inOf (nodesFrom (now s) first count))) ≤ length (now out) ⌝ }
+    ensures { λ r. ⌜ Put (now (out .entry)) at (length (inputRun (inputBytesAt (now (s .entry)) (now (names .entry)) n) (map inOf (nodesFrom (now (s .entry)) first count)))) (inputRun (inputBytesAt (now (s .entry)) (now (names .entry)) n) (map inOf (nodesFrom (now (s .entry)) first count))) (now (out .exit)) r ⌝ }
 {
     let mut o = at;
     let mut j: u16 = 0;
@@ -94,7 +93,7 @@ fn put_run(
 
 fn inputs_size(s: &[u8], names: &[u64; 512], n: u16, inputs: Inputs) -> u32
     requires { ⌜ Table (now s) (now names) n × (inputsEnd inputs ≤ 512) ⌝ }
-    ensures { λ r. ⌜ (r ≡ length (inputsBytes (inputAt (now (s .entry)) (now (names .entry)) n) (now (s .entry)) inputs)) × (r < 2 ^ 20) ⌝ }
+    ensures { λ r. ⌜ (r ≡ length (inputsBytes (inputBytesAt (now (s .entry)) (now (names .entry)) n) (inputsIs (now (s .entry)) inputs))) × (r < 2 ^ 20) ⌝ }
 {
     match inputs {
         Inputs::Nothing => 0,
@@ -113,8 +112,8 @@ fn put_inputs(
     at: usize,
 ) -> usize
     requires { ⌜ Table (now s) (now names) n × (inputsEnd inputs ≤ 512) ⌝ }
-    requires { ⌜ at + length (inputsBytes (inputAt (now s) (now names) n) (now s) inputs) ≤ length (now out) ⌝ }
-    ensures { λ r. ⌜ Put (now (out .entry)) at (length (inputsBytes (inputAt (now (s .entry)) (now (names .entry)) n) (now (s .entry)) inputs)) (inputsBytes (inputAt (now (s .entry)) (now (names .entry)) n) (now (s .entry)) inputs) (now (out .exit)) r ⌝ }
+    requires { ⌜ at + length (inputsBytes (inputBytesAt (now s) (now names) n) (inputsIs (now s) inputs)) ≤ length (now out) ⌝ }
+    ensures { λ r. ⌜ Put (now (out .entry)) at (length (inputsBytes (inputBytesAt (now (s .entry)) (now (names .entry)) n) (inputsIs (now (s .entry)) inputs))) (inputsBytes (inputBytesAt (now (s .entry)) (now (names .entry)) n) (inputsIs (now (s .entry)) inputs)) (now (out .exit)) r ⌝ }
 {
     match inputs {
         Inputs::Nothing => at,

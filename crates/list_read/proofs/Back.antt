@@ -1,18 +1,16 @@
 -- What is written is read back: numbers, runs of bytes, texts, inputs. Assumes nothing.
-use Prim.Native.Nat.{ℕ, zero, suc, _+_, _*_, _/_, _%_, _<_, _≤_}
+use Prim.Native.Nat.{ℕ, _+_, _*_, _/_, _%_, _<_, _≤_}
 use native.Mathlib.Nat.{div-div-eq-div-mul, mod-add-div', mod-eq-of-lt, div-lt-iff-lt-mul}
 use native.Mathlib.Omega.{arith}
-use mathlib.Core.Path.{_≡_, refl, sym, ap, _∙_}
-use mathlib.Core.List.{List, [], _∷_, _++_, append-assoc, append-nil}
-use mathlib.Core.Bool.{Bool, true, false}
-use mathlib.Core.Option.{Option, none, some}
-use borrow.Author.Tests.{lt-ltb, le-leb, eq-eqb}
-use lib.Dec.{eqb, leb, ltb}
-use lib.ListN.{length, length-append}
+use mathlib.Core.Path.{_≡_, refl, ap}
+use mathlib.Core.List.{List, [], _∷_, _++_, append-assoc}
+use mathlib.Core.Bool.{true}
+use borrow.Author.Tests.{lt-ltb, le-leb}
+use lib.ListN.{length}
 use Rattle.bits.specs.Bytes.{bytes16, bytes32}
 use Rattle.bits.specs.Utf8.{utf8}
-use Rattle.list_read.specs.Read.{Got, bad, got, andThen, given, readByte, readBelow, read16, read32, readMany, readText}
-use Rattle.list_read.specs.Records.{textBytes}
+use Rattle.list_read.specs.Read.{got, readByte, readBelow, read16, read32, readMany, readText}
+use Rattle.tree.specs.Input.{textBytes}
 
 pub read16-back : (n : ℕ) (r : List ℕ) → n < 65536 → read16 (bytes16 n ++ r) ≡ got n r
 unfolding read16 bytes16

@@ -3,28 +3,28 @@ use Prim.Native.Nat.{ℕ, zero, suc, _+_, _*_, _/_, _%_, _<_, _≤_}
 use native.Mathlib.Nat.{div-div-eq-div-mul, add-mul-mod-self-right, mod-eq-of-lt, div-eq-of-lt-le}
 use native.Mathlib.Omega.{arith}
 use mathlib.Core.Path.{_≡_, refl, sym, ap, _∙_, subst}
-use mathlib.Core.List.{List, [], _∷_, _++_, append-assoc, append-nil}
+use mathlib.Core.List.{List, [], _∷_, _++_, append-assoc}
 use mathlib.Core.Bool.{Bool, true, false}
-use borrow.Author.Tests.{ltb-true, leb-true, eqb-true}
-use lib.Dec.{eqb, leb, ltb}
+use borrow.Author.Tests.{ltb-true, leb-true}
+use lib.Dec.{leb, ltb}
 use lib.ListN.{length}
 use Rattle.bits.specs.Bytes.{bytes16, bytes32}
 use Rattle.bits.specs.Utf8.{utf8}
-use Rattle.list_read.specs.Read.{Got, bad, got, andThen, given, readByte, readBelow, read16, read32, readMany, readText}
-use Rattle.list_read.specs.Records.{textBytes}
+use Rattle.list_read.specs.Read.{Got, outside, got, andThen, onlyIf, readByte, readBelow, read16, read32, readMany, readText}
+use Rattle.tree.specs.Input.{textBytes}
 
 -- what holds of what is read, if anything is
 abbrev pub Holds : {A : Type 0} → (A → List ℕ → Type 0) → Got A → Type 0
-Holds P bad = Unit {0}
+Holds P outside = Unit {0}
 Holds P (got a r) = P a r
 
 pub holds-then : {A B : Type 0} (P : A → List ℕ → Type 0) (Q : B → List ℕ → Type 0) (g : Got A) (f : A → List ℕ → Got B) → Holds P g → ((a : A) (r : List ℕ) → P a r → Holds Q (f a r)) → Holds Q (andThen g f)
-holds-then P Q bad f h k = tt
+holds-then P Q outside f h k = tt
 holds-then P Q (got a r) f h k = k a r h
 
-pub holds-given : {A : Type 0} (P : A → List ℕ → Type 0) (b : Bool) (g : Got A) → (b ≡ true → Holds P g) → Holds P (given b g)
-holds-given P true g h = h refl
-holds-given P false g h = tt
+pub holds-only-if : {A : Type 0} (P : A → List ℕ → Type 0) (b : Bool) (g : Got A) → (b ≡ true → Holds P g) → Holds P (onlyIf b g)
+holds-only-if P true g h = h refl
+holds-only-if P false g h = tt
 
 -- each is a byte
 unfoldable pub AllBytes : List ℕ → Type 0
@@ -44,7 +44,7 @@ byte-forth (x ∷ xs) h = (h .0, record { split = refl; rest = h .1 })
 pub below-forth : (n : ℕ) (xs : List ℕ) → AllBytes xs → Holds (λ b r. (b < n) × Front xs (b ∷ []) r) (readBelow n xs)
 unfolding readBelow AllBytes
 below-forth n [] h = tt
-below-forth n (x ∷ xs) h = holds-given _ (ltb x n) _ (λ e. (ltb-true x n e, record { split = refl; rest = h .1 }))
+below-forth n (x ∷ xs) h = holds-only-if _ (ltb x n) _ (λ e. (ltb-true x n e, record { split = refl; rest = h .1 }))
 
 -- the lowest byte, and what is above it
 low : (a y : ℕ) → a < 256 → ((a + y * 256) % 256 ≡ a) × ((a + y * 256) / 256 ≡ y)
@@ -98,7 +98,7 @@ pub text-forth : (xs : List ℕ) → AllBytes xs → Holds (λ t r. (length t �
 unfolding readText textBytes
 text-forth xs h =
     holds-then _ _ (read16 xs) _ (read16-forth xs h)
-    (λ n r p. holds-given _ (leb n 255) _
+    (λ n r p. holds-only-if _ (leb n 255) _
     (λ small. holds-then _ _ (readMany readByte n r) _ (run-forth n r (p .1 .rest))
-    (λ t r′ q. holds-given _ (utf8 t) _
+    (λ t r′ q. holds-only-if _ (utf8 t) _
     (λ u. (rw (q .0) (leb-true n 255 small), u, fronts (subst (λ (k : ℕ). Front xs (bytes16 k) r) (sym (q .0)) (p .1)) (q .2))))))

@@ -1,28 +1,29 @@
--- Laws for the code that tests a list. Assumes nothing.
-use Prim.Native.Nat.{ℕ, zero, suc, _+_, _*_, _-_, _<_, _≤_}
-use native.Mathlib.Nat.{add-zero}
+-- Laws for the code that tests a list, its records and its count. Assumes nothing.
+use Prim.Native.Nat.{ℕ, suc, _+_, _*_, _-_, _<_, _≤_}
 use native.Mathlib.Omega.{arith}
 use native.Mathlib.Decide.{decLe}
-use mathlib.Core.Path.{_≡_, refl, sym, ap, _∙_, subst}
-use mathlib.Core.List.{List, [], _∷_, _++_}
+use mathlib.Core.Path.{_≡_, refl, sym, ap, _∙_}
+use mathlib.Core.List.{List, [], _∷_}
 use mathlib.Core.Bool.{Bool, true, false, cond}
-use mathlib.Core.Option.{Option, none, some}
+use mathlib.Core.Option.{none}
 use borrow.Author.Tests.{le-leb, lt-leb, eq-eqb, ne-eqb}
 use lib.Dec.{leb, eqb}
-use lib.ListN.{length, getD, take, drop}
+use lib.ListN.{length, getD}
 use lib.Seq.{take-length}
 use Rattle.bits.specs.Bytes.{bytesFrom, le16, le32}
 use Rattle.bits.proofs.Runs.{length-bytesFrom, bytesFrom-step, bytesFrom-none, bytesFrom-part}
-use Rattle.list_read.specs.Read.{Got, bad, got, andThen, given, readByte, read16, read32, readMany}
-use Rattle.list_read.specs.Records.{Form, form1, form2, Record, readRecord}
-use Rattle.list_read.specs.Lists.{readFront, readTable, readCounted, readList, listBytes, recordRun, AllGood}
-use Rattle.list_read.specs.After.{isGot, recordOk, tableOk, countedOk, listOk}
+use Rattle.list_read.specs.Read.{Got, outside, got, andThen, onlyIf, readByte, read16, read32, readMany}
+use Rattle.list_read.specs.Records.{Form, form2, ListRecord, readRecord}
+use Rattle.list_read.specs.Lists.{readOpening, readRecords, readCounted, readList}
+use Rattle.list_read.specs.After.{isGot, formOf, recordInLayout, recordsInLayout, countedInLayout, inLayout}
+use Rattle.list_read.specs.declared.ListForm.{ListForm}
+use Rattle.list_read.specs.declared.ListForm.the-variants.{One, Two}
 use Rattle.list_read.proofs.Forth.{Holds, AllBytes}
-use Rattle.list_read.proofs.Laws.{Lawful, lawful1, lawful2}
+use Rattle.list_read.proofs.Forms.{Lawful, lawful}
 use Rattle.list_read.proofs.Sizes.{few-small}
 use Rattle.list_read.proofs.ListBack.{length-list}
 use Rattle.list_read.proofs.ListForth.{ReadList, list-forth}
-use Rattle.list_read.proofs.Walking.{run-is, run-bad}
+use Rattle.list_read.proofs.Walking.{run-is, run-outside}
 
 -- numbers at a place
 
@@ -48,195 +49,159 @@ read32-at s p k h =
     let m : k - 1 - 1 - 1 - 1 ≡ k - 4 = omega arith in
     rw (bytesFrom-step s p k a, bytesFrom-step s (p + 1) (k - 1) b, bytesFrom-step s (p + 1 + 1) (k - 1 - 1) c, bytesFrom-step s (p + 1 + 1 + 1) (k - 1 - 1 - 1) d, m, e₄, e₃, e₂)
 
--- the two ways to say a table's step
+-- the records, by their first pair
 
 both : {A B : Type 0} (g : Got A) (h : Got B) (f : A → B → List ℕ → Got B) → ((a : A) (b : B) (r : List ℕ) → isGot (f a b r) ≡ true) → isGot (andThen g (λ a r. andThen h (λ b r′. f a b r′))) ≡ cond (isGot g) (isGot h) false
-both bad h f k = refl
-both (got a r) bad f k = refl
+both outside h f k = refl
+both (got a r) outside f k = refl
 both (got a r) (got b r′) f k = k a b r′
 
-module _ {R : Type 0} (f : Form R) (s : List ℕ) (p at end : ℕ) where
-  abbrev offset : ℕ
-  offset = le32 s p
+is-only-if : {A : Type 0} (b : Bool) (g : Got A) → isGot (onlyIf b g) ≡ cond b (isGot g) false
+is-only-if true g = refl
+is-only-if false g = refl
 
-  abbrev size : ℕ
-  size = le32 s (p + 4)
+module _ (form : ListForm) (s : List ℕ) where
+  -- n records from `at` to `end`, with their pairs from p on
+  abbrev pub recordsAt : (p at end n : ℕ) → Bool
+  recordsAt p at end n = recordsInLayout form n at (bytesFrom s p (8 * n)) (bytesFrom s at (end - at))
 
-  step : (n : ℕ) → at ≤ end → isGot (readTable f (suc n) at (bytesFrom s p (8 * suc n)) (bytesFrom s at (end - at)))
-      ≡ cond (eqb offset at) (cond (leb size (end - at)) (cond (isGot (readRecord f (bytesFrom s at size))) (isGot (readTable f n (at + size) (bytesFrom s (p + 8) (8 * n)) (bytesFrom s (at + size) (end - (at + size))))) false) false) false
-  unfolding readTable
-  step n h =
-      let a : 4 ≤ 8 * suc n = omega arith in
-      let b : 4 ≤ 8 * suc n - 4 = omega arith in
-      let e : p + 4 + 4 ≡ p + 8 = omega arith in
-      let d : 8 * suc n - 4 - 4 ≡ 8 * n = omega arith in
-      rw (read32-at s p (8 * suc n) a, read32-at s (p + 4) (8 * suc n - 4) b, e, d) (by (eqb offset at))
+  module _ (p at end : ℕ) (h : at ≤ end) where
+    abbrev size : ℕ
+    size = le32 s (p + 4)
+
+    -- one record and those behind it
+    abbrev oneAndMore : ℕ → Bool
+    oneAndMore n = cond (leb size (end - at)) (cond (recordInLayout form (bytesFrom s at size)) (recordsAt (p + 8) (at + size) end n) false) false
+
+    records-suc : (n : ℕ) → recordsAt p at end (suc n) ≡ cond (eqb (le32 s p) at) (oneAndMore n) false
+    unfolding recordsInLayout recordInLayout readRecords
+    records-suc n =
+        let a : 4 ≤ 8 * suc n = omega arith in
+        let b : 4 ≤ 8 * suc n - 4 = omega arith in
+        let e : p + 4 + 4 ≡ p + 8 = omega arith in
+        let d : 8 * suc n - 4 - 4 ≡ 8 * n = omega arith in
+        rw (read32-at s p (8 * suc n) a, read32-at s (p + 4) (8 * suc n - 4) b, e, d)
+        (is-only-if (eqb (le32 s p) at) _ ∙ ap (λ (x : Bool). cond (eqb (le32 s p) at) x false) (more n))
+      where
+        more : (n : ℕ) → isGot (andThen (readMany readByte size (bytesFrom s at (end - at))) (λ ys rest. andThen (readRecord (formOf form) ys) (λ r none′. andThen (readRecords (formOf form) n (at + size) (bytesFrom s (p + 8) (8 * n)) rest) (λ rs none″. got (r ∷ rs) [])))) ≡ oneAndMore n
+        more n =
+            elim (decLe size (end - at)) [
+              | yes k ↦ let m : end - at - size ≡ end - (at + size) = omega arith in
+                  rw (run-is size s at (end - at) k, le-leb size (end - at) k, m)
+                  (both (readRecord (formOf form) (bytesFrom s at size)) (readRecords (formOf form) n (at + size) (bytesFrom s (p + 8) (8 * n)) (bytesFrom s (at + size) (end - (at + size)))) (λ r rs none. got (r ∷ rs) []) (λ r rs none. refl))
+              | no k ↦ rw (run-outside size (bytesFrom s at (end - at)) (rw (length-bytesFrom s at (end - at)) (omega arith)), lt-leb size (end - at) (omega arith))
+            ]
+
+    records-first : (n : ℕ) → 0 < n → recordsAt p at end n ≡ cond (eqb (le32 s p) at) (oneAndMore (n - 1)) false
+    records-first n k =
+        let e : n ≡ suc (n - 1) = omega arith in
+        ap (recordsAt p at end) e ∙ records-suc (n - 1)
+
+    pub records-offset : (n : ℕ) → 0 < n → (le32 s p ≡ at → ⊥) → recordsAt p at end n ≡ false
+    records-offset n k d = records-first n k ∙ rw (ne-eqb (le32 s p) at d)
+
+    pub records-size : (n : ℕ) → 0 < n → le32 s p ≡ at → end - at < size → recordsAt p at end n ≡ false
+    records-size n k e d = records-first n k ∙ rw (eq-eqb (le32 s p) at e, lt-leb size (end - at) d)
+
+    pub records-outside : (n : ℕ) → 0 < n → le32 s p ≡ at → size ≤ end - at → recordInLayout form (bytesFrom s at size) ≡ false → recordsAt p at end n ≡ false
+    records-outside n k e d r = records-first n k ∙ rw (eq-eqb (le32 s p) at e, le-leb size (end - at) d, r)
+
+    pub records-next : (n : ℕ) → 0 < n → le32 s p ≡ at → size ≤ end - at → recordInLayout form (bytesFrom s at size) ≡ true → recordsAt p at end n ≡ recordsAt (p + 8) (at + size) end (n - 1)
+    records-next n k e d r = records-first n k ∙ rw (eq-eqb (le32 s p) at e, le-leb size (end - at) d, r)
+
+  no-records : (at : ℕ) (ps xs : List ℕ) → xs ≡ [] → recordsInLayout form 0 at ps xs ≡ true
+  unfolding recordsInLayout readRecords
+  no-records at ps xs e = rw e
+
+  more-bytes : (at x : ℕ) (ps xs : List ℕ) → recordsInLayout form 0 at ps (x ∷ xs) ≡ false
+  unfolding recordsInLayout readRecords
+  more-bytes at x ps xs = refl
+
+  -- the last record ends where the bytes end
+  pub records-end : (p at end n : ℕ) → at ≤ end → n ≡ 0 → recordsAt p at end n ≡ eqb at end
+  records-end p at end n h e = ap (recordsAt p at end) e ∙ by
     where
-      fits : isGot (andThen (readMany readByte size (bytesFrom s at (end - at))) (λ ys rest. andThen (readRecord f ys) (λ r none′. andThen (readTable f n (at + size) (bytesFrom s (p + 8) (8 * n)) rest) (λ rs none″. got (r ∷ rs) []))))
-          ≡ cond (leb size (end - at)) (cond (isGot (readRecord f (bytesFrom s at size))) (isGot (readTable f n (at + size) (bytesFrom s (p + 8) (8 * n)) (bytesFrom s (at + size) (end - (at + size))))) false) false
-      fits =
-          elim (decLe size (end - at)) [
-            | yes k ↦ let m : end - at - size ≡ end - (at + size) = omega arith in
-                rw (run-is size s at (end - at) k, le-leb size (end - at) k, m)
-                (both (readRecord f (bytesFrom s at size)) (readTable f n (at + size) (bytesFrom s (p + 8) (8 * n)) (bytesFrom s (at + size) (end - (at + size)))) (λ r rs none. got (r ∷ rs) []) (λ r rs none. refl))
-            | no k ↦ rw (run-bad size (bytesFrom s at (end - at)) (rw (length-bytesFrom s at (end - at)) (omega arith)), lt-leb size (end - at) (omega arith))
+      by : recordsAt p at end 0 ≡ eqb at end
+      by =
+          elim (decLe end at) [
+            | yes m ↦ let e : at ≡ end = omega arith in let z : end - at ≡ 0 = omega arith in rw (eq-eqb at end e) (no-records at (bytesFrom s p (8 * 0)) (bytesFrom s at (end - at)) (bytesFrom-none s at (end - at) z))
+            | no m ↦ let z : 0 < end - at = omega arith in rw (ne-eqb at end (λ e. omega arith), bytesFrom-step s at (end - at) z) (more-bytes at (getD s at 0) (bytesFrom s p (8 * 0)) (bytesFrom s (at + 1) (end - at - 1)))
           ]
 
-      by : (b : Bool) → isGot (given b (andThen (readMany readByte size (bytesFrom s at (end - at))) (λ ys rest. andThen (readRecord f ys) (λ r none′. andThen (readTable f n (at + size) (bytesFrom s (p + 8) (8 * n)) rest) (λ rs none″. got (r ∷ rs) [])))))
-          ≡ cond b (cond (leb size (end - at)) (cond (isGot (readRecord f (bytesFrom s at size))) (isGot (readTable f n (at + size) (bytesFrom s (p + 8) (8 * n)) (bytesFrom s (at + size) (end - (at + size))))) false) false) false
-      by true = fits
-      by false = refl
+  -- the count
 
-abbrev nil : List ℕ → Got (List ℕ)
-nil r = got [] r
+  -- what stands behind the count
+  behindCount : ℕ → ℕ → List ℕ → Bool
+  behindCount before n r = isGot (andThen (readMany readByte (8 * n) r) (λ ps xs. readRecords (formOf form) n (before + 2 + 8 * n) ps xs))
 
--- in each form
+  count-outside : (before : ℕ) (xs : List ℕ) → length xs < 2 → countedInLayout form before xs ≡ false
+  unfolding countedInLayout readCounted read16
+  count-outside before [] h = refl
+  count-outside before (a ∷ []) h = refl
+  count-outside before (a ∷ b ∷ xs) h = absurd (omega arith)
 
-two-step : (s : List ℕ) (p at end : ℕ) → at ≤ end → (n : ℕ) → tableOk true (suc n) at (bytesFrom s p (8 * suc n)) (bytesFrom s at (end - at)) ≡ cond (eqb (le32 s p) at) (cond (leb (le32 s (p + 4)) (end - at)) (cond (recordOk true (bytesFrom s at (le32 s (p + 4)))) (tableOk true n (at + le32 s (p + 4)) (bytesFrom s (p + 8) (8 * n)) (bytesFrom s (at + le32 s (p + 4)) (end - (at + le32 s (p + 4))))) false) false) false
-unfolding tableOk recordOk
-two-step s p at end h n = step form2 s p at end n h
+  count-is : (before end : ℕ) → 2 ≤ end - before → countedInLayout form before (bytesFrom s before (end - before)) ≡ cond (leb (le16 s before) 512) (behindCount before (le16 s before) (bytesFrom s (before + 2) (end - before - 2))) false
+  unfolding countedInLayout readCounted behindCount
+  count-is before end h = rw (read16-at s before (end - before) h) (is-only-if (leb (le16 s before) 512) _)
 
-one-step : (s : List ℕ) (p at end : ℕ) → at ≤ end → (n : ℕ) → tableOk false (suc n) at (bytesFrom s p (8 * suc n)) (bytesFrom s at (end - at)) ≡ cond (eqb (le32 s p) at) (cond (leb (le32 s (p + 4)) (end - at)) (cond (recordOk false (bytesFrom s at (le32 s (p + 4)))) (tableOk false n (at + le32 s (p + 4)) (bytesFrom s (p + 8) (8 * n)) (bytesFrom s (at + le32 s (p + 4)) (end - (at + le32 s (p + 4))))) false) false) false
-unfolding tableOk recordOk
-one-step s p at end h n = step form1 s p at end n h
+  pairs-short : (before n : ℕ) (r : List ℕ) → length r < 8 * n → behindCount before n r ≡ false
+  unfolding behindCount
+  pairs-short before n r h = rw (run-outside (8 * n) r h)
 
-no-records : (two : Bool) (at : ℕ) (ps xs : List ℕ) → (xs ≡ []) → tableOk two 0 at ps xs ≡ true
-unfolding tableOk readTable
-no-records true at ps xs e = rw e
-no-records false at ps xs e = rw e
+  pairs-in : (before n p left : ℕ) → 8 * n ≤ left → behindCount before n (bytesFrom s p left) ≡ recordsInLayout form n (before + 2 + 8 * n) (bytesFrom s p (8 * n)) (bytesFrom s (p + 8 * n) (left - 8 * n))
+  unfolding behindCount recordsInLayout
+  pairs-in before n p left h = rw (run-is (8 * n) s p left h)
 
-more-bytes : (two : Bool) (at x : ℕ) (ps xs : List ℕ) → tableOk two 0 at ps (x ∷ xs) ≡ false
-unfolding tableOk readTable
-more-bytes true at x ps xs = refl
-more-bytes false at x ps xs = refl
+  module _ (before end : ℕ) (h : before ≤ end) where
+    abbrev counts : Bool
+    counts = countedInLayout form before (bytesFrom s before (end - before))
 
-table-zero : (two : Bool) (s : List ℕ) (p at end : ℕ) → at ≤ end → tableOk two 0 at (bytesFrom s p (8 * 0)) (bytesFrom s at (end - at)) ≡ eqb at end
-table-zero two s p at end h =
-    elim (decLe end at) [
-      | yes m ↦ let e : at ≡ end = omega arith in let z : end - at ≡ 0 = omega arith in rw (eq-eqb at end e) (no-records two at (bytesFrom s p (8 * 0)) (bytesFrom s at (end - at)) (bytesFrom-none s at (end - at) z))
-      | no m ↦ let z : 0 < end - at = omega arith in rw (ne-eqb at end (λ e. omega arith), bytesFrom-step s at (end - at) z) (more-bytes two at (getD s at 0) (bytesFrom s p (8 * 0)) (bytesFrom s (at + 1) (end - at - 1)))
-    ]
+    pub count-short : end - before < 2 → counts ≡ false
+    count-short k = count-outside before (bytesFrom s before (end - before)) (rw (length-bytesFrom s before (end - before)) k)
 
--- the count and the pairs, in each form
+    pub count-over : 2 ≤ end - before → 512 < le16 s before → counts ≡ false
+    count-over k m = count-is before end k ∙ rw (lt-leb (le16 s before) 512 m)
 
-tableAfter : Bool → ℕ → ℕ → List ℕ → Bool
-tableAfter true before n r = isGot (andThen (readMany readByte (8 * n) r) (λ ps xs. readTable form2 n (before + 2 + 8 * n) ps xs))
-tableAfter false before n r = isGot (andThen (readMany readByte (8 * n) r) (λ ps xs. readTable form1 n (before + 2 + 8 * n) ps xs))
+    pub count-pairs : 2 ≤ end - before → le16 s before ≤ 512 → end - (before + 2) < 8 * le16 s before → counts ≡ false
+    count-pairs k m d =
+        let e : end - before - 2 ≡ end - (before + 2) = omega arith in
+        count-is before end k ∙ rw (le-leb (le16 s before) 512 m, e) (pairs-short before (le16 s before) (bytesFrom s (before + 2) (end - (before + 2))) (rw (length-bytesFrom s (before + 2) (end - (before + 2))) d))
 
-count-bad : (two : Bool) (before : ℕ) (xs : List ℕ) → length xs < 2 → countedOk two before xs ≡ false
-unfolding countedOk readCounted read16
-count-bad true before [] h = refl
-count-bad false before [] h = refl
-count-bad true before (a ∷ []) h = refl
-count-bad false before (a ∷ []) h = refl
-count-bad two before (a ∷ b ∷ xs) h = absurd (omega arith)
-
-is-given : {A : Type 0} (b : Bool) (g : Got A) → isGot (given b g) ≡ cond b (isGot g) false
-is-given true g = refl
-is-given false g = refl
-
-count-is : (two : Bool) (before : ℕ) (s : List ℕ) (end : ℕ) → 2 ≤ end - before → countedOk two before (bytesFrom s before (end - before)) ≡ cond (leb (le16 s before) 512) (tableAfter two before (le16 s before) (bytesFrom s (before + 2) (end - before - 2))) false
-unfolding countedOk readCounted tableAfter
-count-is true before s end h = rw (read16-at s before (end - before) h) (is-given (leb (le16 s before) 512) _)
-count-is false before s end h = rw (read16-at s before (end - before) h) (is-given (leb (le16 s before) 512) _)
-
-pairs-short : (two : Bool) (before n : ℕ) (r : List ℕ) → length r < 8 * n → tableAfter two before n r ≡ false
-unfolding tableAfter
-pairs-short true before n r h = rw (run-bad (8 * n) r h)
-pairs-short false before n r h = rw (run-bad (8 * n) r h)
-
-pairs-in : (two : Bool) (before n : ℕ) (s : List ℕ) (p left : ℕ) → 8 * n ≤ left → tableAfter two before n (bytesFrom s p left) ≡ tableOk two n (before + 2 + 8 * n) (bytesFrom s p (8 * n)) (bytesFrom s (p + 8 * n) (left - 8 * n))
-unfolding tableAfter tableOk
-pairs-in true before n s p left h = rw (run-is (8 * n) s p left h)
-pairs-in false before n s p left h = rw (run-is (8 * n) s p left h)
-
--- a table, by its first pair
-
-module _ (two : Bool) (s : List ℕ) (p at end : ℕ) (h : at ≤ end) where
-  abbrev table : ℕ → Bool
-  table n = tableOk two n at (bytesFrom s p (8 * n)) (bytesFrom s at (end - at))
-
-  table-suc : (n : ℕ) → table (suc n) ≡ cond (eqb (le32 s p) at) (cond (leb (le32 s (p + 4)) (end - at)) (cond (recordOk two (bytesFrom s at (le32 s (p + 4)))) (tableOk two n (at + le32 s (p + 4)) (bytesFrom s (p + 8) (8 * n)) (bytesFrom s (at + le32 s (p + 4)) (end - (at + le32 s (p + 4))))) false) false) false
-  table-suc n = by two
-    where
-      by : (b : Bool) → tableOk b (suc n) at (bytesFrom s p (8 * suc n)) (bytesFrom s at (end - at)) ≡ cond (eqb (le32 s p) at) (cond (leb (le32 s (p + 4)) (end - at)) (cond (recordOk b (bytesFrom s at (le32 s (p + 4)))) (tableOk b n (at + le32 s (p + 4)) (bytesFrom s (p + 8) (8 * n)) (bytesFrom s (at + le32 s (p + 4)) (end - (at + le32 s (p + 4))))) false) false) false
-      by true = two-step s p at end h n
-      by false = one-step s p at end h n
-
-  table-first : (n : ℕ) → 0 < n → table n ≡ cond (eqb (le32 s p) at) (cond (leb (le32 s (p + 4)) (end - at)) (cond (recordOk two (bytesFrom s at (le32 s (p + 4)))) (tableOk two (n - 1) (at + le32 s (p + 4)) (bytesFrom s (p + 8) (8 * (n - 1))) (bytesFrom s (at + le32 s (p + 4)) (end - (at + le32 s (p + 4))))) false) false) false
-  table-first n k =
-      let e : n ≡ suc (n - 1) = omega arith in
-      ap table e ∙ table-suc (n - 1)
-
-  pub table-offset : (n : ℕ) → 0 < n → (le32 s p ≡ at → ⊥) → table n ≡ false
-  table-offset n k d = table-first n k ∙ rw (ne-eqb (le32 s p) at d)
-
-  pub table-size : (n : ℕ) → 0 < n → le32 s p ≡ at → end - at < le32 s (p + 4) → table n ≡ false
-  table-size n k e d = table-first n k ∙ rw (eq-eqb (le32 s p) at e, lt-leb (le32 s (p + 4)) (end - at) d)
-
-  pub table-bad : (n : ℕ) → 0 < n → le32 s p ≡ at → le32 s (p + 4) ≤ end - at → recordOk two (bytesFrom s at (le32 s (p + 4))) ≡ false → table n ≡ false
-  table-bad n k e d r = table-first n k ∙ rw (eq-eqb (le32 s p) at e, le-leb (le32 s (p + 4)) (end - at) d, r)
-
-  pub table-next : (n : ℕ) → 0 < n → le32 s p ≡ at → le32 s (p + 4) ≤ end - at → recordOk two (bytesFrom s at (le32 s (p + 4))) ≡ true
-      → table n ≡ tableOk two (n - 1) (at + le32 s (p + 4)) (bytesFrom s (p + 8) (8 * (n - 1))) (bytesFrom s (at + le32 s (p + 4)) (end - (at + le32 s (p + 4))))
-  table-next n k e d r = table-first n k ∙ rw (eq-eqb (le32 s p) at e, le-leb (le32 s (p + 4)) (end - at) d, r)
-
-  pub table-end : (n : ℕ) → n ≡ 0 → table n ≡ eqb at end
-  table-end n e = ap table e ∙ table-zero two s p at end h
-
--- the count
-
-module _ (two : Bool) (s : List ℕ) (before end : ℕ) (h : before ≤ end) where
-  abbrev counts : Bool
-  counts = countedOk two before (bytesFrom s before (end - before))
-
-  pub count-short : end - before < 2 → counts ≡ false
-  count-short k = count-bad two before (bytesFrom s before (end - before)) (rw (length-bytesFrom s before (end - before)) k)
-
-  pub count-over : 2 ≤ end - before → 512 < le16 s before → counts ≡ false
-  count-over k m = count-is two before s end k ∙ rw (lt-leb (le16 s before) 512 m)
-
-  pub count-pairs : 2 ≤ end - before → le16 s before ≤ 512 → end - (before + 2) < 8 * le16 s before → counts ≡ false
-  count-pairs k m d =
-      let e : end - before - 2 ≡ end - (before + 2) = omega arith in
-      count-is two before s end k ∙ rw (le-leb (le16 s before) 512 m, e) (pairs-short two before (le16 s before) (bytesFrom s (before + 2) (end - (before + 2))) (rw (length-bytesFrom s (before + 2) (end - (before + 2))) d))
-
-  pub count-table : 2 ≤ end - before → le16 s before ≤ 512 → 8 * le16 s before ≤ end - (before + 2)
-      → counts ≡ tableOk two (le16 s before) (before + 2 + 8 * le16 s before) (bytesFrom s (before + 2) (8 * le16 s before)) (bytesFrom s (before + 2 + 8 * le16 s before) (end - (before + 2 + 8 * le16 s before)))
-  count-table k m d =
-      let e : end - before - 2 ≡ end - (before + 2) = omega arith in
-      let q : end - (before + 2) - 8 * le16 s before ≡ end - (before + 2 + 8 * le16 s before) = omega arith in
-      count-is two before s end k ∙ rw (le-leb (le16 s before) 512 m, e) (pairs-in two before (le16 s before) s (before + 2) (end - (before + 2)) d ∙ rw q)
+    pub count-records : 2 ≤ end - before → le16 s before ≤ 512 → 8 * le16 s before ≤ end - (before + 2) → counts ≡ recordsAt (before + 2) (before + 2 + 8 * le16 s before) end (le16 s before)
+    count-records k m d =
+        let e : end - before - 2 ≡ end - (before + 2) = omega arith in
+        let q : end - (before + 2) - 8 * le16 s before ≡ end - (before + 2 + 8 * le16 s before) = omega arith in
+        count-is before end k ∙ rw (le-leb (le16 s before) 512 m, e) (pairs-in before (le16 s before) (before + 2) (end - (before + 2)) d ∙ rw q)
 
 -- the whole list
 
 pub whole : (s : List ℕ) → bytesFrom s 0 (length s) ≡ s
 whole s = bytesFrom-part s 0 (length s) (omega arith) ∙ take-length s
 
-pub list-one : (s : List ℕ) → listOk false s ≡ countedOk false 0 (bytesFrom s 0 (length s - 0))
-unfolding listOk countedOk readList readFront
+pub list-one : (s : List ℕ) → inLayout One s ≡ countedInLayout One 0 (bytesFrom s 0 (length s - 0))
+unfolding inLayout countedInLayout readList readOpening
 list-one s =
     let e : length s - 0 ≡ length s = omega arith in
     rw (e, whole s)
 
-list-two-of : (s : List ℕ) → length s < 2 → listOk true s ≡ false
-unfolding listOk readList readFront
-list-two-of [] h = refl
-list-two-of (a ∷ []) h = by (eqb a 255)
+abbrev nothing : List ℕ → Got (List ℕ)
+nothing r = got [] r
+
+pub list-two-short : (s : List ℕ) → length s < 2 → inLayout Two s ≡ false
+unfolding inLayout readList readOpening
+list-two-short [] h = refl
+list-two-short (a ∷ []) h = by (eqb a 255)
   where
-    by : (b : Bool) → isGot (andThen (given b (andThen (readByte []) (λ a r. given (eqb a 255) (nil r)))) (λ front r. readCounted form2 2 r)) ≡ false
+    by : (b : Bool) → isGot (andThen (onlyIf b (andThen (readByte []) (λ a r. onlyIf (eqb a 255) (nothing r)))) (λ front r. readCounted form2 2 r)) ≡ false
     by true = refl
     by false = refl
-list-two-of (a ∷ b ∷ s) h = absurd (omega arith)
+list-two-short (a ∷ b ∷ s) h = absurd (omega arith)
 
-pub list-two-short : (s : List ℕ) → length s < 2 → listOk true s ≡ false
-list-two-short s h = list-two-of s h
-
-list-two-in : (a b : ℕ) (r : List ℕ) → listOk true (a ∷ b ∷ r) ≡ cond (eqb a 255) (cond (eqb b 255) (countedOk true 2 r) false) false
-unfolding listOk countedOk readList readFront
+list-two-in : (a b : ℕ) (r : List ℕ) → inLayout Two (a ∷ b ∷ r) ≡ cond (eqb a 255) (cond (eqb b 255) (countedInLayout Two 2 r) false) false
+unfolding inLayout countedInLayout readList readOpening
 list-two-in a b r = by (eqb a 255) (eqb b 255)
   where
-    by : (i j : Bool) → isGot (andThen (given i (given j (nil r))) (λ front r. readCounted form2 2 r)) ≡ cond i (cond j (isGot (readCounted form2 2 r)) false) false
+    by : (i j : Bool) → isGot (andThen (onlyIf i (onlyIf j (nothing r))) (λ front r. readCounted form2 2 r)) ≡ cond i (cond j (isGot (readCounted form2 2 r)) false) false
     by true true = refl
     by true false = refl
     by false j = refl
@@ -246,22 +211,20 @@ rest-two a b r =
     let e : length (a ∷ b ∷ r) - 2 ≡ length r = omega arith in
     rw e (bytesFrom-part (a ∷ b ∷ r) 2 (length r) (omega arith) ∙ take-length r)
 
-pub list-two : (s : List ℕ) → 2 ≤ length s → listOk true s ≡ cond (eqb (getD s 0 0) 255) (cond (eqb (getD s 1 0) 255) (countedOk true 2 (bytesFrom s 2 (length s - 2))) false) false
+pub list-two : (s : List ℕ) → 2 ≤ length s → inLayout Two s ≡ cond (eqb (getD s 0 0) 255) (cond (eqb (getD s 1 0) 255) (countedInLayout Two 2 (bytesFrom s 2 (length s - 2))) false) false
 list-two [] h = absurd (omega arith)
 list-two (a ∷ []) h = absurd (omega arith)
-list-two (a ∷ b ∷ r) h = list-two-in a b r ∙ ap (λ (x : List ℕ). cond (eqb a 255) (cond (eqb b 255) (countedOk true 2 x) false) false) (sym (rest-two a b r))
+list-two (a ∷ b ∷ r) h = list-two-in a b r ∙ ap (λ (x : List ℕ). cond (eqb a 255) (cond (eqb b 255) (countedInLayout Two 2 x) false) false) (sym (rest-two a b r))
 
--- a list within the layout is not so long
+-- a list in the layout is not so long
 
-module _ {R : Type 0} (f : Form R) (law : Lawful f) (s : List ℕ) (long : 100000000 < length s) where
-  large : (g : Got (List (Record R))) → Holds (ReadList f law s) g → isGot g ≡ false
-  large bad h = refl
-  large (got rs r) h = absurd (omega (arith, ap length (h .same), length-list f rs, few-small f law rs (h .few) (h .each), h .few, law .opening))
+large : {R : Type 0} (f : Form R) (law : Lawful f) (s : List ℕ) → 100000000 < length s → (g : Got (List (ListRecord R))) → Holds (ReadList f law s) g → isGot g ≡ false
+large f law s long outside h = refl
+large f law s long (got rs r) h = absurd (omega (arith, ap length (h .same), length-list f rs, few-small f law rs (h .inside .few) (h .inside .each), h .inside .few, law .short))
 
-pub list-large : (two : Bool) (s : List ℕ) → AllBytes s → 100000000 < length s → listOk two s ≡ false
-unfolding listOk
-list-large true s b h = large form2 lawful2 s h (readList form2 s) (list-forth form2 lawful2 s b)
-list-large false s b h = large form1 lawful1 s h (readList form1 s) (list-forth form1 lawful1 s b)
+pub list-large : (form : ListForm) (s : List ℕ) → AllBytes s → 100000000 < length s → inLayout form s ≡ false
+unfolding inLayout
+list-large form s b h = large (formOf form) (lawful form) s h (readList (formOf form) s) (list-forth (formOf form) (lawful form) s b)
 
 pub all-bytes : (s : List ℕ) → ((i : ℕ) → getD s i 0 < 256) → AllBytes s
 unfolding AllBytes

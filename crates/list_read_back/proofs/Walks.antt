@@ -1,25 +1,22 @@
--- The walk over each kind's fields ends with the record, and gives the patterns of its numbers. Assumes nothing.
-use Prim.Native.Nat.{ℕ, zero, suc, _+_, _*_, _/_, _%_, _<_, _≤_}
+-- The layout's walk over the fields of each kind passes all of their bytes, and gives the bit patterns of its numbers. Assumes nothing.
+use Prim.Native.Nat.{ℕ, _+_, _*_, _/_, _%_, _<_, _≤_}
 use native.Mathlib.Omega.{arith}
 use mathlib.Core.Path.{_≡_, refl, sym, ap, _∙_}
-use mathlib.Core.Bool.{Bool, true, false, _&&_}
+use mathlib.Core.Bool.{Bool, true, false}
 use mathlib.Core.List.{List, [], _∷_, _++_, map, map-append, append-assoc, append-nil}
-use mathlib.Core.Option.{Option, none, some}
-use borrow.Author.Tests.{lt-ltb, le-leb, eq-eqb}
-use lib.Dec.{leb, ltb}
-use lib.ListN.{length, length-append, length-map, getD}
+use borrow.Author.Tests.{le-leb}
+use lib.Dec.{ltb}
+use lib.ListN.{length}
 use lib.Ieee.{Float, binary32, toBits}
 use Rattle.bits.specs.Bytes.{bytes16, bytes32, bytesF}
-use Rattle.geom.specs.declared.Rect.{Rect}
-use Rattle.tree.specs.Input as tree
-use Rattle.tree.specs.Scalars.{boolByte, optionBytes, i32Bytes, colorBytes, rectBytes, runBytes, numbersBytes}
-use Rattle.tree.specs.Places.{blendModePlace, edgeModePlace, colorChannelPlace, morphologyOperatorPlace, turbulenceKindPlace}
-use Rattle.tree.specs.Fields.{colorMatrixKindBytes, transferFunctionBytes, componentTransferBytes, compositeOperatorBytes, convolveMatrixDataBytes, convolveMatrixBytes, distantLightBytes, tripleBytes, pointLightBytes, spotLightBytes, lightSourceBytes, diffuseLightingBytes, displacementMapBytes, dropShadowBytes, floodBytes, gaussianBlurBytes, morphologyBytes, offsetBytes, specularLightingBytes, turbulenceBytes}
-use Rattle.tree.specs.Kinds.{ColorMatrixKind, Matrix, Saturate, HueRotate, LuminanceToAlpha, TransferFunction, Identity, Table, Discrete, Linear, Gamma, Kind, Blend, ColorMatrix, ComponentTransfer, Composite, ConvolveMatrix, DiffuseLighting, DisplacementMap, DropShadow, Flood, GaussianBlur, Image, Merge, Morphology, Offset, SpecularLighting, Tile, Turbulence, Primitive, inputsOf, ComponentTransferFields, ConvolveMatrixFields}
+use Rattle.tree.specs.Scalars.{boolByte, optionBytes, i32Bytes, colorBytes, runBytes, numbersBytes}
+use Rattle.tree.specs.Places.{kindPlace, blendModePlace, edgeModePlace, colorChannelPlace, morphologyOperatorPlace, turbulenceKindPlace}
+use Rattle.tree.specs.Fields.{fieldBytes, colorMatrixKindBytes, transferFunctionBytes, componentTransferBytes, compositeOperatorBytes, convolveMatrixDataBytes, convolveMatrixBytes, distantLightBytes, tripleBytes, pointLightBytes, spotLightBytes, lightSourceBytes, diffuseLightingBytes, displacementMapBytes, dropShadowBytes, floodBytes, gaussianBlurBytes, morphologyBytes, offsetBytes, specularLightingBytes, turbulenceBytes}
+use Rattle.tree.specs.Kinds.{ColorMatrixKind, Matrix, Saturate, HueRotate, LuminanceToAlpha, TransferFunction, Identity, Table, Discrete, Linear, Gamma, Kind, Blend, ColorMatrix, ComponentTransfer, Composite, ConvolveMatrix, DiffuseLighting, DisplacementMap, DropShadow, Flood, GaussianBlur, Image, Merge, Morphology, Offset, SpecularLighting, Tile, Turbulence, ComponentTransferFields, ConvolveMatrixFields}
 use Rattle.tree.specs.declared.Color.{Color}
 use Rattle.tree.specs.declared.DiffuseLighting.{DiffuseLighting as DiffuseFields}
 use Rattle.tree.specs.declared.SpecularLighting.{SpecularLighting as SpecularFields}
-use Rattle.list_read.specs.Numbers.{walkKind}
+use Rattle.list_read.specs.Patterns.{walkKind}
 use Rattle.tree.specs.declared.BlendMode.{BlendMode}
 use Rattle.tree.specs.declared.BlendMode.the-variants as blend
 use Rattle.tree.specs.declared.EdgeMode.{EdgeMode}
@@ -39,10 +36,10 @@ use Rattle.tree.specs.declared.LightSource.the-variants as light
 use Rattle.fe_color.specs.Ranges.{colorMatrixNumbers, transferFunctionNumbers, componentTransferNumbers, operatorNumbers}
 use Rattle.fe_light.specs.Ranges.{optionNumbers, lightNumbers, diffuseNumbers, specularNumbers}
 use Rattle.ranges.specs.Numbers.{kindNumbers}
-use Rattle.list_read.specs.Read.{Got, bad, got, andThen, given, readByte, readBelow, read16, read32, readMany}
-use Rattle.list_read.specs.Layout.{Item, below, free, floats, vec, option, Field, one, enum, Layout, layouts, layoutOf, walkItem, walkItems, walkField, walkFields, atEnd, colorMatrixKind, transferFunction, compositeOperator, lightSource}
-use Rattle.list_read.proofs.Back.{below-back, read16-back}
-use Rattle.list_read_back.specs.Reading.{kindPlace, fieldBytes, TransferWithin, ColorMatrixWithin, KindWithin}
+use Rattle.list_read.specs.Read.{got, readBelow, read32, readMany}
+use Rattle.list_read.specs.Layout.{byteBelow, anyBytes, f32s, vec, Field, item, layoutOf, walkItem, walkItems, walkField, walkFields, colorMatrixKind, transferFunction, compositeOperator, lightSource}
+use Rattle.list_read.proofs.Back.{read16-back}
+use Rattle.list_read_back.specs.Reading.{TransferWithin, ColorMatrixWithin, KindWithin}
 
 -- what the four bytes of a number are read as
 abbrev pub pattern : ℕ → ℕ
@@ -66,7 +63,7 @@ vec-walk low high xs r h k m =
     let s : length xs < 65536 = omega arith in
     rw (append-assoc (bytes16 (length xs)) (runBytes xs) r, read16-back (length xs) (runBytes xs ++ r) s, le-leb low (length xs) h, le-leb (length xs) high k) (run-patterns xs r)
 
--- an enum's place is below their number
+-- an enum's place is byteBelow their number
 
 blend-small : (v : BlendMode) → ltb (blendModePlace v) 16 ≡ true
 blend-small blend.Normal = refl
@@ -177,62 +174,62 @@ four f a b c d na nb nc nd ha hb hc hd =
 light-end : (l : LightSource) → walkField lightSource (lightSourceBytes l) ≡ got (map patternOf (lightNumbers l)) []
 light-end l = ap (walkField lightSource) (sym (append-nil (lightSourceBytes l))) ∙ light-walk l []
 
-floats2 : (x y : Float) (r : List ℕ) → walkField (one (floats 2)) ((bytesF x ++ bytesF y) ++ r) ≡ got (patternOf x ∷ patternOf y ∷ []) r
+floats2 : (x y : Float) (r : List ℕ) → walkField (item (f32s 2)) ((bytesF x ++ bytesF y) ++ r) ≡ got (patternOf x ∷ patternOf y ∷ []) r
 unfolding walkField walkItem readMany read32 bytes32
 floats2 x y r = refl
 
-floats3 : (x y z : Float) (r : List ℕ) → walkField (one (floats 3)) ((bytesF x ++ bytesF y ++ bytesF z) ++ r) ≡ got (patternOf x ∷ patternOf y ∷ patternOf z ∷ []) r
+floats3 : (x y z : Float) (r : List ℕ) → walkField (item (f32s 3)) ((bytesF x ++ bytesF y ++ bytesF z) ++ r) ≡ got (patternOf x ∷ patternOf y ∷ patternOf z ∷ []) r
 unfolding walkField walkItem readMany read32 bytes32
 floats3 x y z r = refl
 
-color3 : (c : Color) (r : List ℕ) → walkField (one (free 3)) (colorBytes c ++ r) ≡ got [] r
+color3 : (c : Color) (r : List ℕ) → walkField (item (anyBytes 3)) (colorBytes c ++ r) ≡ got [] r
 unfolding walkField walkItem readMany colorBytes
 color3 c r = refl
 
-free16 : (a b c d : ℕ) (r : List ℕ) → walkField (one (free 16)) ((bytes32 a ++ bytes32 b ++ bytes32 c ++ bytes32 d) ++ r) ≡ got [] r
+free16 : (a b c d : ℕ) (r : List ℕ) → walkField (item (anyBytes 16)) ((bytes32 a ++ bytes32 b ++ bytes32 c ++ bytes32 d) ++ r) ≡ got [] r
 unfolding walkField walkItem readMany bytes32
 free16 a b c d r = refl
 
-vec-field : (xs : List Float) (r : List ℕ) → length xs ≤ 1024 → walkField (one (vec 0 1024)) (numbersBytes xs ++ r) ≡ got (map patternOf xs) r
+vec-field : (xs : List Float) (r : List ℕ) → length xs ≤ 1024 → walkField (item (vec 0 1024)) (numbersBytes xs ++ r) ≡ got (map patternOf xs) r
 unfolding walkField
 vec-field xs r h = vec-walk 0 1024 xs r (omega arith) h (omega arith)
 
-lit-walk : (f : Field) (a na : List ℕ) (color : Color) (l : LightSource) → ((r : List ℕ) → walkField f (a ++ r) ≡ got na r) → walkFields (f ∷ one (free 3) ∷ lightSource ∷ []) (a ++ (colorBytes color ++ lightSourceBytes l)) ≡ got (na ++ map patternOf (lightNumbers l)) []
+lit-walk : (f : Field) (a na : List ℕ) (color : Color) (l : LightSource) → ((r : List ℕ) → walkField f (a ++ r) ≡ got na r) → walkFields (f ∷ item (anyBytes 3) ∷ lightSource ∷ []) (a ++ (colorBytes color ++ lightSourceBytes l)) ≡ got (na ++ map patternOf (lightNumbers l)) []
 lit-walk f a na color l h =
-    cons-walk f (one (free 3) ∷ lightSource ∷ []) a (colorBytes color ++ lightSourceBytes l) na (map patternOf (lightNumbers l)) (h (colorBytes color ++ lightSourceBytes l))
-    (cons-walk (one (free 3)) (lightSource ∷ []) (colorBytes color) (lightSourceBytes l) [] (map patternOf (lightNumbers l)) (color3 color (lightSourceBytes l))
+    cons-walk f (item (anyBytes 3) ∷ lightSource ∷ []) a (colorBytes color ++ lightSourceBytes l) na (map patternOf (lightNumbers l)) (h (colorBytes color ++ lightSourceBytes l))
+    (cons-walk (item (anyBytes 3)) (lightSource ∷ []) (colorBytes color) (lightSourceBytes l) [] (map patternOf (lightNumbers l)) (color3 color (lightSourceBytes l))
     (alone lightSource (lightSourceBytes l) (map patternOf (lightNumbers l)) (light-walk l)))
 
-diffuse-walk : (v : DiffuseFields) → walkFields (one (floats 2) ∷ one (free 3) ∷ lightSource ∷ []) (diffuseLightingBytes v) ≡ got (map patternOf (diffuseNumbers v)) []
+diffuse-walk : (v : DiffuseFields) → walkFields (item (f32s 2) ∷ item (anyBytes 3) ∷ lightSource ∷ []) (diffuseLightingBytes v) ≡ got (map patternOf (diffuseNumbers v)) []
 unfolding diffuseLightingBytes
 diffuse-walk v =
-    ap (walkFields (one (floats 2) ∷ one (free 3) ∷ lightSource ∷ [])) (append-assoc (bytesF (v .«surface_scale») ++ bytesF (v .«diffuse_constant»)) (colorBytes (v .«lighting_color»)) (lightSourceBytes (v .«light_source»)))
-    ∙ lit-walk (one (floats 2)) (bytesF (v .«surface_scale») ++ bytesF (v .«diffuse_constant»)) (patternOf (v .«surface_scale») ∷ patternOf (v .«diffuse_constant») ∷ []) (v .«lighting_color») (v .«light_source»)
+    ap (walkFields (item (f32s 2) ∷ item (anyBytes 3) ∷ lightSource ∷ [])) (append-assoc (bytesF (v .«surface_scale») ++ bytesF (v .«diffuse_constant»)) (colorBytes (v .«lighting_color»)) (lightSourceBytes (v .«light_source»)))
+    ∙ lit-walk (item (f32s 2)) (bytesF (v .«surface_scale») ++ bytesF (v .«diffuse_constant»)) (patternOf (v .«surface_scale») ∷ patternOf (v .«diffuse_constant») ∷ []) (v .«lighting_color») (v .«light_source»)
     (floats2 (v .«surface_scale») (v .«diffuse_constant»))
 
-specular-walk : (v : SpecularFields) → walkFields (one (floats 3) ∷ one (free 3) ∷ lightSource ∷ []) (specularLightingBytes v) ≡ got (map patternOf (specularNumbers v)) []
+specular-walk : (v : SpecularFields) → walkFields (item (f32s 3) ∷ item (anyBytes 3) ∷ lightSource ∷ []) (specularLightingBytes v) ≡ got (map patternOf (specularNumbers v)) []
 unfolding specularLightingBytes
 specular-walk v =
-    ap (walkFields (one (floats 3) ∷ one (free 3) ∷ lightSource ∷ [])) (append-assoc (bytesF (v .«surface_scale») ++ bytesF (v .«specular_constant») ++ bytesF (v .«specular_exponent»)) (colorBytes (v .«lighting_color»)) (lightSourceBytes (v .«light_source»)))
-    ∙ lit-walk (one (floats 3)) (bytesF (v .«surface_scale») ++ bytesF (v .«specular_constant») ++ bytesF (v .«specular_exponent»))
+    ap (walkFields (item (f32s 3) ∷ item (anyBytes 3) ∷ lightSource ∷ [])) (append-assoc (bytesF (v .«surface_scale») ++ bytesF (v .«specular_constant») ++ bytesF (v .«specular_exponent»)) (colorBytes (v .«lighting_color»)) (lightSourceBytes (v .«light_source»)))
+    ∙ lit-walk (item (f32s 3)) (bytesF (v .«surface_scale») ++ bytesF (v .«specular_constant») ++ bytesF (v .«specular_exponent»))
     (patternOf (v .«surface_scale») ∷ patternOf (v .«specular_constant») ∷ patternOf (v .«specular_exponent») ∷ []) (v .«lighting_color») (v .«light_source»)
     (floats3 (v .«surface_scale») (v .«specular_constant») (v .«specular_exponent»))
 
-kernel-end : (x y : Float) (m : EdgeMode) (p : Bool) → walkFields (one (floats 2) ∷ one (below 3) ∷ one (below 2) ∷ []) (bytesF x ++ (bytesF y ++ (edgeModePlace m ∷ boolByte p ∷ []))) ≡ got (patternOf x ∷ patternOf y ∷ []) []
+kernel-end : (x y : Float) (m : EdgeMode) (p : Bool) → walkFields (item (f32s 2) ∷ item (byteBelow 3) ∷ item (byteBelow 2) ∷ []) (bytesF x ++ (bytesF y ++ (edgeModePlace m ∷ boolByte p ∷ []))) ≡ got (patternOf x ∷ patternOf y ∷ []) []
 unfolding walkFields walkField walkItem readBelow readMany read32 bytes32
 kernel-end x y m p = rw (edge-small m, bool-small p)
 
-convolve-walk : (v : ConvolveMatrixFields) → length (v .matrix .numbers) ≤ 1024 → walkFields (one (free 16) ∷ one (vec 0 1024) ∷ one (floats 2) ∷ one (below 3) ∷ one (below 2) ∷ []) (convolveMatrixBytes v) ≡ got (map patternOf (v .matrix .numbers ++ (v .divisor ∷ v .bias ∷ []))) []
+convolve-walk : (v : ConvolveMatrixFields) → length (v .matrix .numbers) ≤ 1024 → walkFields (item (anyBytes 16) ∷ item (vec 0 1024) ∷ item (f32s 2) ∷ item (byteBelow 3) ∷ item (byteBelow 2) ∷ []) (convolveMatrixBytes v) ≡ got (map patternOf (v .matrix .numbers ++ (v .divisor ∷ v .bias ∷ []))) []
 unfolding convolveMatrixBytes convolveMatrixDataBytes
 convolve-walk v h =
     let m = v .matrix in
     let t = bytes32 (m .«target_x») ++ bytes32 (m .«target_y») ++ bytes32 (m .columns) ++ bytes32 (m .rows) in
     let end = bytesF (v .divisor) ++ (bytesF (v .bias) ++ (edgeModePlace (v .«edge_mode») ∷ boolByte (v .«preserve_alpha») ∷ [])) in
     let e : (t ++ numbersBytes (m .numbers)) ++ bytesF (v .divisor) ++ bytesF (v .bias) ++ (edgeModePlace (v .«edge_mode») ∷ []) ++ (boolByte (v .«preserve_alpha») ∷ []) ≡ t ++ (numbersBytes (m .numbers) ++ end) = simp append-assoc in
-    ap (walkFields (one (free 16) ∷ one (vec 0 1024) ∷ one (floats 2) ∷ one (below 3) ∷ one (below 2) ∷ [])) e
-    ∙ cons-walk (one (free 16)) (one (vec 0 1024) ∷ one (floats 2) ∷ one (below 3) ∷ one (below 2) ∷ []) t (numbersBytes (m .numbers) ++ end) [] (map patternOf (m .numbers) ++ (patternOf (v .divisor) ∷ patternOf (v .bias) ∷ []))
+    ap (walkFields (item (anyBytes 16) ∷ item (vec 0 1024) ∷ item (f32s 2) ∷ item (byteBelow 3) ∷ item (byteBelow 2) ∷ [])) e
+    ∙ cons-walk (item (anyBytes 16)) (item (vec 0 1024) ∷ item (f32s 2) ∷ item (byteBelow 3) ∷ item (byteBelow 2) ∷ []) t (numbersBytes (m .numbers) ++ end) [] (map patternOf (m .numbers) ++ (patternOf (v .divisor) ∷ patternOf (v .bias) ∷ []))
     (free16 (m .«target_x») (m .«target_y») (m .columns) (m .rows) (numbersBytes (m .numbers) ++ end))
-    (cons-walk (one (vec 0 1024)) (one (floats 2) ∷ one (below 3) ∷ one (below 2) ∷ []) (numbersBytes (m .numbers)) end (map patternOf (m .numbers)) (patternOf (v .divisor) ∷ patternOf (v .bias) ∷ [])
+    (cons-walk (item (vec 0 1024)) (item (f32s 2) ∷ item (byteBelow 3) ∷ item (byteBelow 2) ∷ []) (numbersBytes (m .numbers)) end (map patternOf (m .numbers)) (patternOf (v .divisor) ∷ patternOf (v .bias) ∷ [])
     (vec-field (m .numbers) end h) (kernel-end (v .divisor) (v .bias) (v .«edge_mode») (v .«preserve_alpha»)))
     ∙ ap (λ (l : List ℕ). got l []) (sym (map-append patternOf (m .numbers) (v .divisor ∷ v .bias ∷ [])))
 

@@ -6,22 +6,16 @@ use mathlib.Core.List.{List, [], _∷_, map}
 use lib.Dec.{T}
 use lib.ListN.{take}
 use lib.Ieee.{Float, binary32, nanBits, fits}
-use Rattle.tree.specs.Input as tree
+use Rattle.tree.specs.Input.{Name}
 use Rattle.naming.specs.Agreement as names
 use Rattle.list_read.specs.Read.{got}
-use Rattle.list_read.specs.Records.{Name, Input, SourceGraphic, SourceAlpha, Reference, Record, form1}
+use Rattle.list_read.specs.Records.{ListRecord, form1}
 use Rattle.list_read.specs.Lists.{readList}
-use Rattle.list_read.specs.Numbers.{listNumbers}
-
--- an input that was read, for the reader's lookup
-abbrev pub sourceOf : Input Name → tree.Input
-sourceOf SourceGraphic = tree.SourceGraphic
-sourceOf SourceAlpha = tree.SourceAlpha
-sourceOf (Reference t) = tree.Reference t
+use Rattle.list_read.specs.Patterns.{listPatterns}
 
 -- a record that was read, as far as names go
-abbrev pub readNames : Record Name → names.Record
-readNames r = record { result = r .result; inputs = map sourceOf (r .inputs) }
+abbrev pub readNames : ListRecord Name → names.Record
+readNames r = record { result = r .result; inputs = r .inputs }
 
 -- no pattern of an f32 is a NaN's
 unfoldable pub NoNan : List ℕ → Type 0
@@ -35,7 +29,7 @@ Fits x = T (fits binary32 x)
 -- The first `n` bytes of the output are a list in form 1. At every input of it, the reader's lookup among the records before gives what the rule
 -- gives among the children before; and no pattern of an f32 in it is a NaN's
 pub record Reads (out : List ℕ) (n : ℕ) (children : List names.Child) : Type 0 where
-  pub records : List (Record Name)
+  pub records : List (ListRecord Name)
   pub read : readList form1 (take n out) ≡ got records []
   pub agrees : names.Agrees children (map readNames records)
-  pub numbers : NoNan (listNumbers records)
+  pub numbers : NoNan (listPatterns records)

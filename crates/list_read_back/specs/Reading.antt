@@ -1,70 +1,25 @@
--- What a reader of the list's bytes finds of a primitive: `recordOf`; and which primitives the layout has room for. Definitions only.
-use Prim.Native.Nat.{ℕ, _≤_, _<_}
+-- What a reader of the list's bytes finds of a primitive: `listRecordOf`; and which primitives the layout has room for. Definitions only.
+use Prim.Native.Nat.{_≤_}
 use mathlib.Core.Path.{_≡_}
-use mathlib.Core.Bool.{Bool, true, false}
-use mathlib.Core.List.{List, [], _∷_, map}
+use mathlib.Core.Bool.{true}
+use mathlib.Core.List.{List, [], _∷_}
 use lib.ListN.{length}
-use Rattle.tree.specs.Input as tree
+use Rattle.tree.specs.Input.{Name}
 use Rattle.tree.specs.Scalars.{rectBytes}
-use Rattle.tree.specs.Places.{colorInterpolationPlace, blendModePlace}
-use Rattle.tree.specs.Fields.{colorMatrixKindBytes, componentTransferBytes, compositeOperatorBytes, convolveMatrixBytes, diffuseLightingBytes, displacementMapBytes, dropShadowBytes, floodBytes, gaussianBlurBytes, morphologyBytes, offsetBytes, specularLightingBytes, turbulenceBytes}
+use Rattle.tree.specs.Places.{colorInterpolationPlace, kindPlace}
+use Rattle.tree.specs.Fields.{fieldBytes}
 use Rattle.tree.specs.Kinds.{ColorMatrixKind, Matrix, Saturate, HueRotate, LuminanceToAlpha, TransferFunction, Identity, Table, Discrete, Linear, Gamma, Kind, Blend, ColorMatrix, ComponentTransfer, Composite, ConvolveMatrix, DiffuseLighting, DisplacementMap, DropShadow, Flood, GaussianBlur, Image, Merge, Morphology, Offset, SpecularLighting, Tile, Turbulence, Primitive, inputsOf}
-use Rattle.list_read.specs.Records.{Name, Input, SourceGraphic, SourceAlpha, Reference, Record, form1, textFits, inputsFit}
-
-abbrev pub inputOf : tree.Input → Input Name
-inputOf tree.SourceGraphic = SourceGraphic
-inputOf tree.SourceAlpha = SourceAlpha
-inputOf (tree.Reference t) = Reference t
-
--- the kind's place in the declaration
-abbrev pub kindPlace : {A : Type 0} → Kind A → ℕ
-kindPlace (Blend a b v) = 0
-kindPlace (ColorMatrix a v) = 1
-kindPlace (ComponentTransfer a v) = 2
-kindPlace (Composite a b v) = 3
-kindPlace (ConvolveMatrix a v) = 4
-kindPlace (DiffuseLighting a v) = 5
-kindPlace (DisplacementMap a b v) = 6
-kindPlace (DropShadow a v) = 7
-kindPlace (Flood v) = 8
-kindPlace (GaussianBlur a v) = 9
-kindPlace (Image never) = 10
-kindPlace (Merge inputs) = 11
-kindPlace (Morphology a v) = 12
-kindPlace (Offset a v) = 13
-kindPlace (SpecularLighting a v) = 14
-kindPlace (Tile a) = 15
-kindPlace (Turbulence v) = 16
-
--- its fields after the inputs
-abbrev pub fieldBytes : {A : Type 0} → Kind A → List ℕ
-fieldBytes (Blend a b v) = blendModePlace v ∷ []
-fieldBytes (ColorMatrix a v) = colorMatrixKindBytes v
-fieldBytes (ComponentTransfer a v) = componentTransferBytes v
-fieldBytes (Composite a b v) = compositeOperatorBytes v
-fieldBytes (ConvolveMatrix a v) = convolveMatrixBytes v
-fieldBytes (DiffuseLighting a v) = diffuseLightingBytes v
-fieldBytes (DisplacementMap a b v) = displacementMapBytes v
-fieldBytes (DropShadow a v) = dropShadowBytes v
-fieldBytes (Flood v) = floodBytes v
-fieldBytes (GaussianBlur a v) = gaussianBlurBytes v
-fieldBytes (Image never) = []
-fieldBytes (Merge inputs) = []
-fieldBytes (Morphology a v) = morphologyBytes v
-fieldBytes (Offset a v) = offsetBytes v
-fieldBytes (SpecularLighting a v) = specularLightingBytes v
-fieldBytes (Tile a) = []
-fieldBytes (Turbulence v) = turbulenceBytes v
+use Rattle.list_read.specs.Records.{ListRecord, form1, textFits, inputsFit}
 
 -- the record that is read of a primitive's bytes
-abbrev pub recordOf : Primitive → Record Name
-recordOf p =
+abbrev pub listRecordOf : Primitive → ListRecord Name
+listRecordOf p =
     record {
       rect = rectBytes (p .rect);
-      color = colorInterpolationPlace (p .«color_interpolation»);
+      colorInterpolation = colorInterpolationPlace (p .«color_interpolation»);
       result = p .result;
       kind = kindPlace (p .kind);
-      inputs = map inputOf (inputsOf (p .kind));
+      inputs = inputsOf (p .kind);
       fields = fieldBytes (p .kind);
     }
 
@@ -106,7 +61,7 @@ KindWithin (Turbulence v) = Unit {0}
 -- "255 bytes in one text", which is UTF-8
 pub record Within (p : Primitive) : Type 0 where
   pub name : textFits (p .result) ≡ true
-  pub inputs : inputsFit form1 (map inputOf (inputsOf (p .kind))) ≡ true
+  pub inputs : inputsFit form1 (inputsOf (p .kind)) ≡ true
   pub counts : KindWithin (p .kind)
 
 unfoldable pub AllWithin : List Primitive → Type 0

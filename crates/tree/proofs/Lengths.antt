@@ -7,9 +7,10 @@ use lib.ListN.{length, length-append, length-map}
 use Rattle.bits.specs.Bytes.{bytes16, bytes32}
 use Rattle.geom.specs.declared.Rect.{Rect}
 use Rattle.tree.specs.Scalars.{i32Bytes, colorBytes, rectBytes, optionBytes, optionSize}
-use Rattle.tree.specs.Kinds.{ColorMatrixKind, Matrix, Saturate, HueRotate, LuminanceToAlpha, TransferFunction, Identity, Table, Discrete, Linear, Gamma, ComponentTransferFields, ConvolveMatrixFields, Primitive}
-use Rattle.tree.specs.Fields.{colorMatrixKindBytes, transferFunctionBytes, componentTransferBytes, compositeOperatorBytes, convolveMatrixDataBytes, convolveMatrixBytes, distantLightBytes, tripleBytes, pointLightBytes, spotLightBytes, lightSourceBytes, diffuseLightingBytes, displacementMapBytes, dropShadowBytes, floodBytes, gaussianBlurBytes, morphologyBytes, offsetBytes, specularLightingBytes, turbulenceBytes}
-use Rattle.tree.specs.Sizes.{colorMatrixKindSize, transferFunctionSize, componentTransferSize, compositeOperatorSize, convolveMatrixSize, lightSourceSize, diffuseLightingSize, specularLightingSize}
+use Rattle.tree.specs.Kinds as kind
+use Rattle.tree.specs.Kinds.{Kind, ColorMatrixKind, Matrix, Saturate, HueRotate, LuminanceToAlpha, TransferFunction, Identity, Table, Discrete, Linear, Gamma, ComponentTransferFields, ConvolveMatrixFields, Primitive}
+use Rattle.tree.specs.Fields.{fieldBytes, colorMatrixKindBytes, transferFunctionBytes, componentTransferBytes, compositeOperatorBytes, convolveMatrixDataBytes, convolveMatrixBytes, distantLightBytes, tripleBytes, pointLightBytes, spotLightBytes, lightSourceBytes, diffuseLightingBytes, displacementMapBytes, dropShadowBytes, floodBytes, gaussianBlurBytes, morphologyBytes, offsetBytes, specularLightingBytes, turbulenceBytes}
+use Rattle.tree.specs.Sizes.{fieldSize, colorMatrixKindSize, transferFunctionSize, componentTransferSize, compositeOperatorSize, convolveMatrixSize, lightSourceSize, diffuseLightingSize, specularLightingSize}
 use Rattle.tree.specs.List.{primitiveSize, total, records, listBytes}
 use Rattle.tree.specs.declared.OptionF32.{OptionF32}
 use Rattle.tree.specs.declared.OptionF32.the-variants.{None, Some}
@@ -116,6 +117,25 @@ length-offset v = refl
 pub length-turbulence : (v : Turbulence) → length (turbulenceBytes v) ≡ 18
 unfolding turbulenceBytes i32Bytes bytes32
 length-turbulence v = refl
+
+pub length-fields : {A : Type 0} (k : Kind A) → length (fieldBytes k) ≡ fieldSize k
+length-fields (kind.Blend a b v) = refl
+length-fields (kind.ColorMatrix a v) = length-colorMatrixKind v
+length-fields (kind.ComponentTransfer a v) = length-componentTransfer v
+length-fields (kind.Composite a b v) = length-compositeOperator v
+length-fields (kind.ConvolveMatrix a v) = length-convolveMatrix v
+length-fields (kind.DiffuseLighting a v) = length-diffuseLighting v
+length-fields (kind.DisplacementMap a b v) = length-displacementMap v
+length-fields (kind.DropShadow a v) = length-dropShadow v
+length-fields (kind.Flood v) = length-flood v
+length-fields (kind.GaussianBlur a v) = length-gaussianBlur v
+length-fields (kind.Image never) = refl
+length-fields (kind.Merge inputs) = refl
+length-fields (kind.Morphology a v) = length-morphology v
+length-fields (kind.Offset a v) = length-offset v
+length-fields (kind.SpecularLighting a v) = length-specularLighting v
+length-fields (kind.Tile a) = refl
+length-fields (kind.Turbulence v) = length-turbulence v
 
 -- a list: its count, its pairs and its records
 length-records : (ps : List Primitive) → length (records ps) ≡ total (map primitiveSize ps)

@@ -19,21 +19,13 @@ use Rattle.tree.specs.declared.EdgeMode.the-variants.{Wrap}
 use Rattle.tree.specs.declared.TurbulenceKind.the-variants.{FractalNoise}
 use Rattle.tree.specs.declared.OptionF32.the-variants.{Some}
 use Rattle.tree.specs.declared.LightSource.the-variants.{SpotLight}
-
-abbrev zero : Float
-zero = ofBits binary32 0
+use Rattle.num.specs.Constants.{plusZero as zero, one, two}
 
 abbrev quarter : Float
 quarter = ofBits binary32 0x3e80_0000
 
 abbrev half : Float
 half = ofBits binary32 0x3f00_0000
-
-abbrev one : Float
-one = ofBits binary32 0x3f80_0000
-
-abbrev two : Float
-two = ofBits binary32 0x4000_0000
 
 abbrev four : Float
 four = ofBits binary32 0x4080_0000

@@ -5,8 +5,9 @@ use mathlib.Core.List.{List, [], _∷_, _++_}
 use lib.Ieee.{Float}
 use Rattle.bits.specs.Bytes.{bytes32, bytesF}
 use Rattle.tree.specs.Scalars.{boolByte, i32Bytes, colorBytes, optionBytes, numbersBytes}
-use Rattle.tree.specs.Places.{edgeModePlace, colorChannelPlace, morphologyOperatorPlace, turbulenceKindPlace}
-use Rattle.tree.specs.Kinds.{ColorMatrixKind, Matrix, Saturate, HueRotate, LuminanceToAlpha, TransferFunction, Identity, Table, Discrete, Linear, Gamma, ComponentTransferFields, ConvolveMatrixData, ConvolveMatrixFields}
+use Rattle.tree.specs.Places.{blendModePlace, edgeModePlace, colorChannelPlace, morphologyOperatorPlace, turbulenceKindPlace}
+use Rattle.tree.specs.Kinds as kind
+use Rattle.tree.specs.Kinds.{Kind, ColorMatrixKind, Matrix, Saturate, HueRotate, LuminanceToAlpha, TransferFunction, Identity, Table, Discrete, Linear, Gamma, ComponentTransferFields, ConvolveMatrixData, ConvolveMatrixFields}
 use Rattle.tree.specs.declared.CompositeOperator.{CompositeOperator}
 use Rattle.tree.specs.declared.CompositeOperator.the-variants.{Over, In, Out, Atop, Xor, Lighter, Arithmetic}
 use Rattle.tree.specs.declared.DistantLight.{DistantLight}
@@ -137,3 +138,23 @@ turbulenceBytes v =
     ++ i32Bytes (v .seed)
     ++ (boolByte (v .«stitch_tiles») ∷ [])
     ++ (turbulenceKindPlace (v .kind) ∷ [])
+
+-- the fields of a kind after its inputs, which come first in every kind
+abbrev pub fieldBytes : {A : Type 0} → Kind A → List ℕ
+fieldBytes (kind.Blend a b v) = blendModePlace v ∷ []
+fieldBytes (kind.ColorMatrix a v) = colorMatrixKindBytes v
+fieldBytes (kind.ComponentTransfer a v) = componentTransferBytes v
+fieldBytes (kind.Composite a b v) = compositeOperatorBytes v
+fieldBytes (kind.ConvolveMatrix a v) = convolveMatrixBytes v
+fieldBytes (kind.DiffuseLighting a v) = diffuseLightingBytes v
+fieldBytes (kind.DisplacementMap a b v) = displacementMapBytes v
+fieldBytes (kind.DropShadow a v) = dropShadowBytes v
+fieldBytes (kind.Flood v) = floodBytes v
+fieldBytes (kind.GaussianBlur a v) = gaussianBlurBytes v
+fieldBytes (kind.Image never) = []
+fieldBytes (kind.Merge inputs) = []
+fieldBytes (kind.Morphology a v) = morphologyBytes v
+fieldBytes (kind.Offset a v) = offsetBytes v
+fieldBytes (kind.SpecularLighting a v) = specularLightingBytes v
+fieldBytes (kind.Tile a) = []
+fieldBytes (kind.Turbulence v) = turbulenceBytes v

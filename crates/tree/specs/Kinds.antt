@@ -101,22 +101,38 @@ mapKind f (SpecularLighting a v) = SpecularLighting (f a) v
 mapKind f (Tile a) = Tile (f a)
 mapKind f (Turbulence v) = Turbulence v
 
+-- the inputs of a kind: none, one, two, or a Vec of them
+pub data Inputs (A : Type 0) : Type 0 where
+  Nothing : Inputs A
+  One : A → Inputs A
+  Two : A → A → Inputs A
+  Vec : List A → Inputs A
+
 -- "`in`, `in2`, or each feMerge child's `in`, in order; a flood or turbulence has none"
+abbrev pub inputsIn : {A : Type 0} → Kind A → Inputs A
+inputsIn (Blend a b v) = Two a b
+inputsIn (ColorMatrix a v) = One a
+inputsIn (ComponentTransfer a v) = One a
+inputsIn (Composite a b v) = Two a b
+inputsIn (ConvolveMatrix a v) = One a
+inputsIn (DiffuseLighting a v) = One a
+inputsIn (DisplacementMap a b v) = Two a b
+inputsIn (DropShadow a v) = One a
+inputsIn (Flood v) = Nothing
+inputsIn (GaussianBlur a v) = One a
+inputsIn (Image never) = Nothing
+inputsIn (Merge inputs) = Vec inputs
+inputsIn (Morphology a v) = One a
+inputsIn (Offset a v) = One a
+inputsIn (SpecularLighting a v) = One a
+inputsIn (Tile a) = One a
+inputsIn (Turbulence v) = Nothing
+
+abbrev pub inputList : {A : Type 0} → Inputs A → List A
+inputList Nothing = []
+inputList (One a) = a ∷ []
+inputList (Two a b) = a ∷ b ∷ []
+inputList (Vec inputs) = inputs
+
 unfoldable pub inputsOf : {A : Type 0} → Kind A → List A
-inputsOf (Blend a b v) = a ∷ b ∷ []
-inputsOf (ColorMatrix a v) = a ∷ []
-inputsOf (ComponentTransfer a v) = a ∷ []
-inputsOf (Composite a b v) = a ∷ b ∷ []
-inputsOf (ConvolveMatrix a v) = a ∷ []
-inputsOf (DiffuseLighting a v) = a ∷ []
-inputsOf (DisplacementMap a b v) = a ∷ b ∷ []
-inputsOf (DropShadow a v) = a ∷ []
-inputsOf (Flood v) = []
-inputsOf (GaussianBlur a v) = a ∷ []
-inputsOf (Image never) = []
-inputsOf (Merge inputs) = inputs
-inputsOf (Morphology a v) = a ∷ []
-inputsOf (Offset a v) = a ∷ []
-inputsOf (SpecularLighting a v) = a ∷ []
-inputsOf (Tile a) = a ∷ []
-inputsOf (Turbulence v) = []
+inputsOf k = inputList (inputsIn k)

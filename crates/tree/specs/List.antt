@@ -5,34 +5,31 @@ use lib.ListN.{length}
 use Rattle.bits.specs.Bytes.{bytes16, bytes32}
 use Rattle.tree.specs.Input.{Input, textBytes, inputBytes}
 use Rattle.tree.specs.Scalars.{rectBytes}
-use Rattle.tree.specs.Places.{colorInterpolationPlace, blendModePlace}
-use Rattle.tree.specs.Kinds.{Kind, Blend, ColorMatrix, ComponentTransfer, Composite, ConvolveMatrix, DiffuseLighting, DisplacementMap, DropShadow, Flood, GaussianBlur, Image, Merge, Morphology, Offset, SpecularLighting, Tile, Turbulence, Primitive}
-use Rattle.tree.specs.Fields.{colorMatrixKindBytes, componentTransferBytes, compositeOperatorBytes, convolveMatrixBytes, diffuseLightingBytes, displacementMapBytes, dropShadowBytes, floodBytes, gaussianBlurBytes, morphologyBytes, offsetBytes, specularLightingBytes, turbulenceBytes}
+use Rattle.tree.specs.Places.{colorInterpolationPlace, kindPlace}
+use Rattle.tree.specs.Kinds.{Kind, Inputs, Nothing, One, Two, Vec, inputsIn, Primitive}
+use Rattle.tree.specs.Fields.{fieldBytes}
+
+-- How an input is written is left open: f says it.
 
 -- inputs one after the other
-unfoldable pub inputRun : List Input → List ℕ
-inputRun [] = []
-inputRun (i ∷ inputs) = inputBytes i ++ inputRun inputs
+unfoldable pub inputRun : {A : Type 0} → (A → List ℕ) → List A → List ℕ
+inputRun f [] = []
+inputRun f (i ∷ inputs) = f i ++ inputRun f inputs
+
+-- a Vec has its count before it
+abbrev pub inputsBytes : {A : Type 0} → (A → List ℕ) → Inputs A → List ℕ
+inputsBytes f Nothing = []
+inputsBytes f (One a) = f a
+inputsBytes f (Two a b) = f a ++ f b
+inputsBytes f (Vec inputs) = bytes16 (length inputs) ++ inputRun f inputs
 
 -- a kind: its place, its inputs and its other fields
+abbrev pub kindBytesWith : {A : Type 0} → (A → List ℕ) → Kind A → List ℕ
+kindBytesWith f k = (kindPlace k ∷ []) ++ inputsBytes f (inputsIn k) ++ fieldBytes k
+
+-- with an input as the converter's lists have it
 unfoldable pub kindBytes : Kind Input → List ℕ
-kindBytes (Blend a b mode) = (0 ∷ []) ++ inputBytes a ++ inputBytes b ++ (blendModePlace mode ∷ [])
-kindBytes (ColorMatrix a v) = (1 ∷ []) ++ inputBytes a ++ colorMatrixKindBytes v
-kindBytes (ComponentTransfer a v) = (2 ∷ []) ++ inputBytes a ++ componentTransferBytes v
-kindBytes (Composite a b v) = (3 ∷ []) ++ inputBytes a ++ inputBytes b ++ compositeOperatorBytes v
-kindBytes (ConvolveMatrix a v) = (4 ∷ []) ++ inputBytes a ++ convolveMatrixBytes v
-kindBytes (DiffuseLighting a v) = (5 ∷ []) ++ inputBytes a ++ diffuseLightingBytes v
-kindBytes (DisplacementMap a b v) = (6 ∷ []) ++ inputBytes a ++ inputBytes b ++ displacementMapBytes v
-kindBytes (DropShadow a v) = (7 ∷ []) ++ inputBytes a ++ dropShadowBytes v
-kindBytes (Flood v) = (8 ∷ []) ++ floodBytes v
-kindBytes (GaussianBlur a v) = (9 ∷ []) ++ inputBytes a ++ gaussianBlurBytes v
-kindBytes (Image never) = 10 ∷ []
-kindBytes (Merge inputs) = (11 ∷ []) ++ bytes16 (length inputs) ++ inputRun inputs
-kindBytes (Morphology a v) = (12 ∷ []) ++ inputBytes a ++ morphologyBytes v
-kindBytes (Offset a v) = (13 ∷ []) ++ inputBytes a ++ offsetBytes v
-kindBytes (SpecularLighting a v) = (14 ∷ []) ++ inputBytes a ++ specularLightingBytes v
-kindBytes (Tile a) = (15 ∷ []) ++ inputBytes a
-kindBytes (Turbulence v) = (16 ∷ []) ++ turbulenceBytes v
+kindBytes k = kindBytesWith inputBytes k
 
 -- "A record holds `Primitive`'s fields in declaration order"
 unfoldable pub primitiveBytes : Primitive → List ℕ

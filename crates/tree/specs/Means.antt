@@ -1,8 +1,9 @@
 -- What the code's values stand for, where they hold places in the lent bytes. Definitions only.
 use Prim.Native.Nat.{ℕ}
 use mathlib.Core.List.{List, [], _∷_}
-use lib.Ieee.{Float, binary32, ofBits}
+use lib.Ieee.{Float}
 use Rattle.num.specs.Lists.{numbersIs}
+use Rattle.num.specs.Constants.{plusZero as zero, one}
 use Rattle.tree.specs.Kinds as spec
 use Rattle.tree.specs.declared.ColorMatrixKind.{ColorMatrixKind}
 use Rattle.tree.specs.declared.ColorMatrixKind.the-variants as matrix
@@ -11,12 +12,6 @@ use Rattle.tree.specs.declared.TransferFunction.the-variants as transfer
 use Rattle.tree.specs.declared.ComponentTransfer.{ComponentTransfer}
 use Rattle.tree.specs.declared.ConvolveMatrixData.{ConvolveMatrixData}
 use Rattle.tree.specs.declared.ConvolveMatrix.{ConvolveMatrix}
-
-abbrev zero : Float
-zero = ofBits binary32 0
-
-abbrev one : Float
-one = ofBits binary32 0x3f80_0000
 
 -- the matrix that changes nothing, a row of five for each of red, green, blue and alpha
 unfoldable pub identityMatrix : List Float

@@ -1,4 +1,4 @@
--- "an enum as its place in the declaration": the enums whose cases hold nothing. Definitions only.
+-- "an enum as its place in the declaration": the enums whose cases hold nothing, and the kinds. Definitions only.
 use Prim.Native.Nat.{ℕ}
 use Rattle.tree.specs.declared.ColorInterpolation.{ColorInterpolation}
 use Rattle.tree.specs.declared.ColorInterpolation.the-variants.{SRGB, LinearRGB}
@@ -12,6 +12,8 @@ use Rattle.tree.specs.declared.MorphologyOperator.{MorphologyOperator}
 use Rattle.tree.specs.declared.MorphologyOperator.the-variants.{Erode, Dilate}
 use Rattle.tree.specs.declared.TurbulenceKind.{TurbulenceKind}
 use Rattle.tree.specs.declared.TurbulenceKind.the-variants.{FractalNoise, Turbulence}
+use Rattle.tree.specs.Kinds as kind
+use Rattle.tree.specs.Kinds.{Kind}
 
 abbrev pub colorInterpolationPlace : ColorInterpolation → ℕ
 colorInterpolationPlace SRGB = 0
@@ -54,3 +56,22 @@ morphologyOperatorPlace Dilate = 1
 abbrev pub turbulenceKindPlace : TurbulenceKind → ℕ
 turbulenceKindPlace FractalNoise = 0
 turbulenceKindPlace Turbulence = 1
+
+abbrev pub kindPlace : {A : Type 0} → Kind A → ℕ
+kindPlace (kind.Blend a b v) = 0
+kindPlace (kind.ColorMatrix a v) = 1
+kindPlace (kind.ComponentTransfer a v) = 2
+kindPlace (kind.Composite a b v) = 3
+kindPlace (kind.ConvolveMatrix a v) = 4
+kindPlace (kind.DiffuseLighting a v) = 5
+kindPlace (kind.DisplacementMap a b v) = 6
+kindPlace (kind.DropShadow a v) = 7
+kindPlace (kind.Flood v) = 8
+kindPlace (kind.GaussianBlur a v) = 9
+kindPlace (kind.Image never) = 10
+kindPlace (kind.Merge inputs) = 11
+kindPlace (kind.Morphology a v) = 12
+kindPlace (kind.Offset a v) = 13
+kindPlace (kind.SpecularLighting a v) = 14
+kindPlace (kind.Tile a) = 15
+kindPlace (kind.Turbulence v) = 16

@@ -2,7 +2,8 @@
 -- proofs/Lengths.antt says of each. Definitions only.
 use Prim.Native.Nat.{ℕ, _+_}
 use Rattle.tree.specs.Scalars.{optionSize, numbersSize}
-use Rattle.tree.specs.Kinds.{ColorMatrixKind, Matrix, Saturate, HueRotate, LuminanceToAlpha, TransferFunction, Identity, Table, Discrete, Linear, Gamma, ComponentTransferFields, ConvolveMatrixData, ConvolveMatrixFields}
+use Rattle.tree.specs.Kinds as kind
+use Rattle.tree.specs.Kinds.{Kind, ColorMatrixKind, Matrix, Saturate, HueRotate, LuminanceToAlpha, TransferFunction, Identity, Table, Discrete, Linear, Gamma, ComponentTransferFields, ConvolveMatrixData, ConvolveMatrixFields}
 use Rattle.tree.specs.declared.CompositeOperator.{CompositeOperator}
 use Rattle.tree.specs.declared.CompositeOperator.the-variants.{Over, In, Out, Atop, Xor, Lighter, Arithmetic}
 use Rattle.tree.specs.declared.SpotLight.{SpotLight}
@@ -59,3 +60,22 @@ diffuseLightingSize v = 11 + lightSourceSize (v .«light_source»)
 
 abbrev pub specularLightingSize : SpecularLighting → ℕ
 specularLightingSize v = 15 + lightSourceSize (v .«light_source»)
+
+abbrev pub fieldSize : {A : Type 0} → Kind A → ℕ
+fieldSize (kind.Blend a b v) = 1
+fieldSize (kind.ColorMatrix a v) = colorMatrixKindSize v
+fieldSize (kind.ComponentTransfer a v) = componentTransferSize v
+fieldSize (kind.Composite a b v) = compositeOperatorSize v
+fieldSize (kind.ConvolveMatrix a v) = convolveMatrixSize v
+fieldSize (kind.DiffuseLighting a v) = diffuseLightingSize v
+fieldSize (kind.DisplacementMap a b v) = 6
+fieldSize (kind.DropShadow a v) = 23
+fieldSize (kind.Flood v) = 7
+fieldSize (kind.GaussianBlur a v) = 8
+fieldSize (kind.Image never) = 0
+fieldSize (kind.Merge inputs) = 0
+fieldSize (kind.Morphology a v) = 9
+fieldSize (kind.Offset a v) = 8
+fieldSize (kind.SpecularLighting a v) = specularLightingSize v
+fieldSize (kind.Tile a) = 0
+fieldSize (kind.Turbulence v) = 18

@@ -11,7 +11,7 @@ ghost use Rattle.num.specs.Lists.{numbersIs};
 ghost use Rattle.tree.specs.Input.{textBytes};
 ghost use Rattle.tree.specs.Scalars.{boolByte, twosComplement, i32Bytes, colorBytes, rectBytes, optionBytes, optionSize, numbersBytes, numbersSize, runBytes};
 ghost use Rattle.tree.specs.Places.{colorInterpolationPlace, blendModePlace, edgeModePlace, colorChannelPlace, morphologyOperatorPlace, turbulenceKindPlace};
-ghost use Rattle.tree.specs.Fields.{compositeOperatorBytes, tripleBytes, distantLightBytes, pointLightBytes, spotLightBytes, lightSourceBytes, colorMatrixKindBytes, transferFunctionBytes, componentTransferBytes, convolveMatrixDataBytes, convolveMatrixBytes, diffuseLightingBytes, displacementMapBytes, dropShadowBytes, floodBytes, gaussianBlurBytes, morphologyBytes, offsetBytes, specularLightingBytes, turbulenceBytes};
+ghost use Rattle.tree.specs.Fields.{compositeOperatorBytes, tripleBytes, distantLightBytes, spotLightBytes, lightSourceBytes, colorMatrixKindBytes, transferFunctionBytes, componentTransferBytes, convolveMatrixDataBytes, convolveMatrixBytes, diffuseLightingBytes, displacementMapBytes, dropShadowBytes, floodBytes, gaussianBlurBytes, morphologyBytes, offsetBytes, specularLightingBytes, turbulenceBytes};
 ghost use Rattle.tree.specs.Sizes.{compositeOperatorSize, spotLightSize, lightSourceSize, colorMatrixKindSize, transferFunctionSize, componentTransferSize, convolveMatrixDataSize, convolveMatrixSize, diffuseLightingSize, specularLightingSize};
 ghost use Rattle.tree.specs.Means.{colorMatrixKindIs, transferFunctionIs, componentTransferIs, convolveMatrixDataIs, convolveMatrixIs};
 ghost use Rattle.tree.specs.List.{pairs, total};

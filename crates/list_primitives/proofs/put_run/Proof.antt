@@ -22,7 +22,9 @@ abbrev μ-loop : tie.MeasureT-loop
 μ-loop s names n first count out₀ at o₀ j₀ out o j = count - j
 
 loop-holds : tie.Need-loop-holds Inv-loop μ-loop
-loop-holds c = (search needs, search needs, rw (merge-none (now (c .before .before .args .s)) (now (c .before .before .args .names)) (c .before .before .args .n) (c .before .before .args .first)) (put-none (now (c .before .before .args .out)) (c .before .before .args .at)))
+loop-holds c =
+    let a = c .before .before .args in
+    (search needs, search needs, rw (merge-none (now (a .s)) (now (a .names)) (a .n) (a .first)) (put-none (now (a .out)) (a .at)))
 
 put-one-requires : tie.Need-put-one-requires Inv-loop μ-loop
 put-one-requires c κs =

@@ -20,7 +20,9 @@ abbrev μ-loop : tie.MeasureT-loop
 μ-loop s names n first count sum₀ j₀ sum j = count - j
 
 loop-holds : tie.Need-loop-holds Inv-loop μ-loop
-loop-holds c = (search needs, search needs, sym (ap length (merge-none (now (c .before .args .s)) (now (c .before .args .names)) (c .before .args .n) (c .before .args .first))))
+loop-holds c =
+    let a = c .before .args in
+    (search needs, search needs, sym (ap length (merge-none (now (a .s)) (now (a .names)) (a .n) (a .first))))
 
 add-node-offset : tie.Need-add-node-offset Inv-loop μ-loop
 add-node-offset c = omega (arith, c .loop-test .taken, c .before .before .before .pre)

@@ -8,7 +8,7 @@ use lib.Seq.{take-all}
 use denote.Ref.{now}
 use Rattle.bits.specs.Patch.{Put}
 use Rattle.bits.proofs.Patches.{_then_, _counted_, put-none}
-use Rattle.num.specs.Narrowed.{plusZero}
+use Rattle.num.specs.Constants.{plusZero}
 use Rattle.num.specs.Lists.{numbersIs}
 use Rattle.tree.specs.Scalars.{runBytes}
 use Rattle.tree.proofs.Runs.{run-more, run-none}
