@@ -79,8 +79,8 @@ abbrev pub orElse : Option ℕ → Option ℕ → Option ℕ
 orElse none o = o
 orElse (some k) o = some k
 
--- The child that a text names: the newest of those before whose own result it is; where it is nobody's, and this is the one exception to the document,
--- the child without a result that the name was made for. There is one at most: `made-distinct` of proofs/Made
+-- The child that a text names: the newest of those before whose own result it is. The document: no other. The crate: where it is no child's own, the child
+-- without a result that the name was made for. There is one at most: `made-distinct` of proofs/Made
 abbrev pub called : Name → List Label → Option ℕ
 called t before = orElse (lastWith (isOwn t) before) (lastWith (isMade t) before)
 

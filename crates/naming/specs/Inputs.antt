@@ -27,11 +27,12 @@ w-FillPaint = word "FillPaint"
 abbrev pub w-StrokePaint : Name
 w-StrokePaint = word "StrokePaint"
 
--- the four inputs that are not supported; each is taken for SourceGraphic
+-- the four inputs that are not supported. The document: each is an image of its own. The crate: each is taken for SourceGraphic
 abbrev pub unsupported : List Name
 unsupported = w-BackgroundImage ∷ w-BackgroundAlpha ∷ w-FillPaint ∷ w-StrokePaint ∷ []
 
--- `parse_in`: a reserved word is never a name; every other text is, the empty one and one that is no identifier too
+-- `parse_in`: a reserved word is never a name. The document: a name is an identifier. The crate: every other text is one, the empty one too, and it is
+-- compared byte for byte
 unfoldable pub parseIn : Name → Input
 parseIn t =
     cond (same t w-SourceGraphic) SourceGraphic

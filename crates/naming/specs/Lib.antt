@@ -1,3 +1,4 @@
 pub mod Names
 pub mod Inputs
 pub mod Agreement
+pub mod Cases
