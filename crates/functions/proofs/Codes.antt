@@ -1,5 +1,5 @@
 -- The function of a record by its code, and its numbers. Assumes nothing.
-use Prim.Native.Nat.{ℕ, _≤_, _<_}
+use Prim.Native.Nat.{ℕ, _+_, _≤_, _<_}
 use native.Mathlib.Omega.{arith}
 use mathlib.Core.Path.{_≡_, refl, ap, _∙_}
 use mathlib.Core.Bool.{Bool, true, false, cond, _&&_}
@@ -7,11 +7,11 @@ use mathlib.Core.List.{List, [], _∷_}
 use lib.Dec.{eqb}
 use borrow.Author.Tests.{le-leb, lt-leb, ne-eqb}
 use lib.Ieee.{Float}
+use Rattle.sheet_fields.specs.Fields.{Marked·Number}
 use Rattle.svgtree.specs.Parse.{double}
-use Rattle.sheet_layout.specs.Tests.{all}
-use Rattle.sheet_check.specs.Numbers.{doubleOk}
-use Rattle.functions.specs.Records.{Function, dropShadow, ofAmount, functionBy, givenShadow}
-use Rattle.functions.specs.Refusals.{numbersIn}
+use Rattle.field_tests.specs.Tests.{all, doubleOk}
+use Rattle.functions.specs.Records.{Record·Argument, Record·Dx, Record·Dy, Record·StdDeviation, Function, dropShadow, ofAmount, functionBy, givenShadow}
+use Rattle.functions.specs.Refusals.{functionNumbers}
 
 module _ (code : ℕ) (s : List ℕ) where
   pub by-shadow : 8 < code → functionBy code s ≡ dropShadow (givenShadow s)
@@ -43,11 +43,11 @@ alone : (x : Float) → all doubleOk (x ∷ []) ≡ doubleOk x
 unfolding all
 alone x = both (doubleOk x)
 
-either : (b : Bool) (f g : Function) (xs : List Float) → numbersIn f ≡ xs → numbersIn g ≡ xs → numbersIn (cond b f g) ≡ xs
+either : (b : Bool) (f g : Function) (xs : List Float) → functionNumbers f ≡ xs → functionNumbers g ≡ xs → functionNumbers (cond b f g) ≡ xs
 either true f g xs p q = p
 either false f g xs p q = q
 
-amount-numbers : (code : ℕ) (x : Float) → numbersIn (ofAmount code x) ≡ x ∷ []
+amount-numbers : (code : ℕ) (x : Float) → functionNumbers (ofAmount code x) ≡ x ∷ []
 unfolding ofAmount
 amount-numbers code x =
     either (eqb code 0) _ _ _ refl
@@ -59,16 +59,16 @@ amount-numbers code x =
     (either (eqb code 6) _ _ _ refl refl))))))
 
 module _ (code : ℕ) (s : List ℕ) where
-  pub numbers-amount : code ≤ 7 → all doubleOk (numbersIn (functionBy code s)) ≡ doubleOk (double s 13)
+  pub numbers-amount : code ≤ 7 → all doubleOk (functionNumbers (functionBy code s)) ≡ doubleOk (double s Record·Argument)
   unfolding functionBy
-  numbers-amount h = rw (le-leb code 7 h, amount-numbers code (double s 13)) (alone (double s 13))
+  numbers-amount h = rw (le-leb code 7 h, amount-numbers code (double s Record·Argument)) (alone (double s Record·Argument))
 
-  pub numbers-blur : code ≡ 8 → all doubleOk (numbersIn (functionBy code s)) ≡ doubleOk (double s 14)
+  pub numbers-blur : code ≡ 8 → all doubleOk (functionNumbers (functionBy code s)) ≡ doubleOk (double s (Record·Argument + Marked·Number))
   unfolding functionBy
-  numbers-blur e = ap (λ (k : ℕ). all doubleOk (numbersIn (functionBy k s))) e ∙ alone (double s 14)
+  numbers-blur e = ap (λ (k : ℕ). all doubleOk (functionNumbers (functionBy k s))) e ∙ alone (double s (Record·Argument + Marked·Number))
 
-  pub numbers-shadow : 8 < code → all doubleOk (numbersIn (functionBy code s)) ≡ (doubleOk (double s 23) && (doubleOk (double s 32) && doubleOk (double s 41)))
+  pub numbers-shadow : 8 < code → all doubleOk (functionNumbers (functionBy code s)) ≡ (doubleOk (double s (Record·Dx + Marked·Number)) && (doubleOk (double s (Record·Dy + Marked·Number)) && doubleOk (double s (Record·StdDeviation + Marked·Number))))
   unfolding all
   numbers-shadow h =
-      ap (λ (f : Function). all doubleOk (numbersIn f)) (by-shadow code s h)
-      ∙ ap (λ (b : Bool). doubleOk (double s 23) && (doubleOk (double s 32) && b)) (both (doubleOk (double s 41)))
+      ap (λ (f : Function). all doubleOk (functionNumbers f)) (by-shadow code s h)
+      ∙ ap (λ (b : Bool). doubleOk (double s (Record·Dx + Marked·Number)) && (doubleOk (double s (Record·Dy + Marked·Number)) && b)) (both (doubleOk (double s (Record·StdDeviation + Marked·Number))))

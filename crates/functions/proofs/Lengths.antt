@@ -8,8 +8,8 @@ use Rattle.tree.specs.Input.{inputBytes}
 use Rattle.tree.specs.Scalars.{colorBytes, runBytes, numbersBytes}
 use Rattle.tree.specs.Fields.{colorMatrixKindBytes, transferFunctionBytes, componentTransferBytes, gaussianBlurBytes, dropShadowBytes}
 use Rattle.tree.specs.List.{kindBytes}
-use Rattle.functions.specs.Records.{Function, FunctionRecord, grayscale, sepia, saturate, hueRotate, invert, opacity, brightness, contrast, blur, dropShadow, functionBy, codeOf, recordOf}
-use Rattle.functions.specs.Functions.{grayscaleMatrix, sepiaMatrix, invertTable, opacityTable, kindBy, kindOf}
+use Rattle.functions.specs.Records.{Function, FunctionRecord, grayscale, sepia, saturate, hueRotate, invert, opacity, brightness, contrast, blur, dropShadow, functionBy, codeOf, functionRecord}
+use Rattle.functions.specs.Functions.{grayscaleMatrix, sepiaMatrix, invertTable, opacityTable, kindBy, functionKind}
 use Rattle.functions.proofs.Codes.{by-shadow}
 
 abbrev pub kindSize : Function → ℕ
@@ -39,8 +39,8 @@ length-kind r (dropShadow v) = refl
 
 module _ (s : List ℕ) where
   -- of a record, by its code
-  pub size-by : (k : ℕ) → codeOf s ≡ k → length (kindBytes (kindOf (recordOf s))) ≡ kindSize (functionBy k s)
-  size-by k e = length-kind (recordOf s) (functionBy (codeOf s) s) ∙ ap (λ (k : ℕ). kindSize (functionBy k s)) e
+  pub size-by : (k : ℕ) → codeOf s ≡ k → length (kindBytes (functionKind (functionRecord s))) ≡ kindSize (functionBy k s)
+  size-by k e = length-kind (functionRecord s) (functionBy (codeOf s) s) ∙ ap (λ (k : ℕ). kindSize (functionBy k s)) e
 
-  pub size-shadow : 8 < codeOf s → length (kindBytes (kindOf (recordOf s))) ≡ 25
-  size-shadow h = length-kind (recordOf s) (functionBy (codeOf s) s) ∙ ap kindSize (by-shadow (codeOf s) s h)
+  pub size-shadow : 8 < codeOf s → length (kindBytes (functionKind (functionRecord s))) ≡ 25
+  size-shadow h = length-kind (functionRecord s) (functionBy (codeOf s) s) ∙ ap kindSize (by-shadow (codeOf s) s h)

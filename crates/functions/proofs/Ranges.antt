@@ -1,5 +1,5 @@
 -- The numbers of every function's kind are in their ranges. Assumes nothing.
-use Prim.Native.Nat.{ℕ, _≤_, _<_}
+use Prim.Native.Nat.{ℕ, _+_, _≤_, _<_}
 use native.Mathlib.Omega.{arith}
 use mathlib.Core.Path.{refl}
 use mathlib.Core.Bool.{Bool, true, false, cond}
@@ -9,43 +9,45 @@ use lib.Dec.{T, leb, eqb, le→leb}
 use lib.ListN.{getD}
 use lib.Ieee.{Float, ofBits, lt, isNan}
 use lib.Ieee.Scale.{finite}
-use Rattle.num.specs.Narrowed.{narrowed, orZero}
+use Rattle.num.specs.Narrowed.{narrowed, orZero, asF32}
 use Rattle.num.specs.Sign.{positive}
-use Rattle.num.proofs.Laws.{Num, finite-num}
+use Rattle.num.specs.Numbers.{IsNumber}
+use Rattle.num.proofs.Laws.{finite-num}
 use Rattle.num.proofs.Finite.{narrowed-fits, orZero-finite, orZero-fits}
 use Rattle.names.specs.Ids.{AId·Dx}
 use Rattle.svgtree.specs.Parse.{colorAt}
 use Rattle.tree.specs.Kinds.{Matrix}
 use Rattle.units.specs.declared.Units.the-variants.{UserSpaceOnUse}
 use Rattle.units.proofs.Lengths.{length-single}
-use Rattle.fe_blur.proofs.Numbers.{made-positive}
-use Rattle.fe_blur.proofs.Opacity.{alpha-ok}
-use Rattle.functions.specs.Records.{GivenLength, Function, FunctionRecord, grayscale, sepia, saturate, hueRotate, invert, opacity, brightness, contrast, blur, dropShadow, flaggedColor, givenShadow, ofAmount, functionBy, codeOf, recordOf}
-use Rattle.functions.specs.Functions.{one64, asF32, held, positiveOrZero, grayscaleMatrix, sepiaMatrix, invertTable, opacityTable, lengthOf, stateOf, userLength, colorOr, kindBy, kindOf}
-use Rattle.functions.specs.Ranges.{InRange, colorMatrix, componentTransfer, gaussianBlur, dropShadow as shadow}
-use Rattle.functions.proofs.Numbers.{_and_, rest-num, grayscale-num, sepia-num, intercept-num}
+use Rattle.fe.proofs.Numbers.{made-positive}
+use Rattle.fe_flood.proofs.Opacity.{alpha-ok}
+use Rattle.functions.specs.Records.{Record·ColorFlag, Record·Color, Record·Fallback, GivenLength, Function, FunctionRecord, grayscale, sepia, saturate, hueRotate, invert, opacity, brightness, contrast, blur, dropShadow, flaggedColor, givenShadow, ofAmount, functionBy, codeOf, functionRecord}
+use Rattle.functions.specs.Functions.{one64, held, positiveOrZero, grayscaleMatrix, sepiaMatrix, invertTable, opacityTable, asLength, functionState, userLength, colorOr, kindBy, functionKind}
+use Rattle.functions.specs.Ranges.{FunctionRange, colorMatrix, componentTransfer, gaussianBlur, dropShadow as shadow}
+use Rattle.num.proofs.Each.{_and_}
+use Rattle.functions.proofs.Numbers.{rest-num, grayscale-num, sepia-num, intercept-num}
 
 number-finite : (x : Float) → T (finite (asF32 x))
 number-finite x = orZero-finite (narrowed x)
 
-number-num : (x : Float) → Num (asF32 x)
+number-num : (x : Float) → IsNumber (asF32 x)
 number-num x = finite-num (asF32 x) (number-finite x)
 
 held-finite : (x : Float) → T (finite (held x))
 unfolding held
 held-finite x = orZero-finite (narrowed (cond (lt one64 x) one64 x))
 
-held-num : (x : Float) → Num (held x)
+held-num : (x : Float) → IsNumber (held x)
 held-num x = finite-num (held x) (held-finite x)
 
 positive-or-zero : (x : Float) → T (positive (positiveOrZero x))
 unfolding positiveOrZero
 positive-or-zero x = made-positive x
 
-length-num : (r : FunctionRecord) (l : GivenLength) → Num (userLength r l)
+length-num : (r : FunctionRecord) (l : GivenLength) → IsNumber (userLength r l)
 unfolding userLength
 length-num r l =
-    length-single (lengthOf l) AId·Dx UserSpaceOnUse (stateOf r) (orZero (r .fontSize))
+    length-single (asLength l) AId·Dx UserSpaceOnUse (functionState r) (orZero (r .fontSize))
     (record { finite-number = orZero-finite (narrowed (l .number)); fits-number = orZero-fits (narrowed (l .number)) (narrowed-fits (l .number)) })
     (record { width = orZero-finite (r .viewBoxWidth); height = orZero-finite (r .viewBoxWidth); dpi = orZero-finite (r .dpi) })
     (orZero-finite (r .fontSize)) .no-nan
@@ -63,7 +65,7 @@ Alpha (contrast x) = Unit {0}
 Alpha (blur l) = Unit {0}
 Alpha (dropShadow v) = T (leb (colorOr (v .color) (v .fallback) .alpha) 255)
 
-by-function : (r : FunctionRecord) (f : Function) → Alpha f → InRange (kindBy r f)
+by-function : (r : FunctionRecord) (f : Function) → Alpha f → FunctionRange (kindBy r f)
 unfolding grayscaleMatrix sepiaMatrix invertTable opacityTable ofBits isNan
 by-function r (grayscale x) h = colorMatrix {v = Matrix (grayscaleMatrix (held x))} (refl, grayscale-num (held x) (held-finite x))
 by-function r (sepia x) h = colorMatrix {v = Matrix (sepiaMatrix (held x))} (refl, sepia-num (held x) (held-finite x))
@@ -113,15 +115,15 @@ module _ (s : List ℕ) (bytes : (i : ℕ) → getD s i 0 < 256) where
   byte-ok : (i : ℕ) → T (leb (getD s i 0) 255)
   byte-ok i = let h : getD s i 0 < 256 = bytes i in let k : getD s i 0 ≤ 255 = omega arith in le→leb (getD s i 0) 255 k
 
-  alpha-shadow : (b : Bool) → T (leb (colorOr (cond b (some (colorAt s 14)) none) (colorAt s 18) .alpha) 255)
-  alpha-shadow true = byte-ok 17
-  alpha-shadow false = byte-ok 21
+  alpha-shadow : (b : Bool) → T (leb (colorOr (cond b (some (colorAt s Record·Color)) none) (colorAt s Record·Fallback) .alpha) 255)
+  alpha-shadow true = byte-ok (Record·Color + 3)
+  alpha-shadow false = byte-ok (Record·Fallback + 3)
 
   alpha : Alpha (functionBy (codeOf s) s)
   unfolding functionBy flaggedColor
   alpha =
       either (leb (codeOf s) 7) _ _ (alpha-amount (codeOf s) _)
-      (either (eqb (codeOf s) 8) _ (dropShadow (givenShadow s)) tt (alpha-shadow (eqb (getD s 13 0) 1)))
+      (either (eqb (codeOf s) 8) _ (dropShadow (givenShadow s)) tt (alpha-shadow (eqb (getD s Record·ColorFlag 0) 1)))
 
-  pub in-range : InRange (kindOf (recordOf s))
-  in-range = by-function (recordOf s) (functionBy (codeOf s) s) alpha
+  pub in-range : FunctionRange (functionKind (functionRecord s))
+  in-range = by-function (functionRecord s) (functionBy (codeOf s) s) alpha

@@ -6,10 +6,10 @@ use lib.ListN.{length}
 use Rattle.bits.specs.Patch.{Put}
 use Rattle.bits.proofs.Patches.{_counted_}
 use Rattle.tree.specs.List.{kindBytes}
-use Rattle.functions.specs.Records.{Function, functionBy, codeOf, recordOf}
-use Rattle.functions.specs.Functions.{kindBy, kindOf}
+use Rattle.functions.specs.Records.{Function, functionBy, codeOf, functionRecord}
+use Rattle.functions.specs.Functions.{kindBy, functionKind}
 
-pub written : (s : List ℕ) {o o′ : List ℕ} {r n : ℕ} (f : Function) → functionBy (codeOf s) s ≡ f → Put o 0 n (kindBytes (kindBy (recordOf s) f)) o′ r
-    → Put o 0 (length (kindBytes (kindOf (recordOf s)))) (kindBytes (kindOf (recordOf s))) o′ r
+pub written : (s : List ℕ) {o o′ : List ℕ} {r n : ℕ} (f : Function) → functionBy (codeOf s) s ≡ f → Put o 0 n (kindBytes (kindBy (functionRecord s) f)) o′ r
+    → Put o 0 (length (kindBytes (functionKind (functionRecord s)))) (kindBytes (functionKind (functionRecord s))) o′ r
 written s {o} {o′} {r} {n} f e p =
-    subst (λ (f : Function). Put o 0 (length (kindBytes (kindBy (recordOf s) f))) (kindBytes (kindBy (recordOf s) f)) o′ r) (sym e) (p counted sym (p .long))
+    subst (λ (f : Function). Put o 0 (length (kindBytes (kindBy (functionRecord s) f))) (kindBytes (kindBy (functionRecord s) f)) o′ r) (sym e) (p counted sym (p .long))

@@ -5,7 +5,8 @@ use mathlib.Core.Bool.{false, cond}
 use mathlib.Core.List.{List, [], _∷_}
 use mathlib.Core.Option.{Option, none, some}
 use lib.Ieee.{Float, binary32, binary64, ofBits, round, add, sub, mul, neg, lt}
-use Rattle.num.specs.Narrowed.{narrowed, orZero, plusZero}
+use Rattle.num.specs.Narrowed.{orZero, asF32}
+use Rattle.num.specs.Constants.{plusZero as zero, one}
 use Rattle.num.specs.Sign.{positive}
 use Rattle.names.specs.Ids.{AId·Dx}
 use Rattle.svgtree.specs.declared.Color.{Color}
@@ -13,8 +14,7 @@ use Rattle.svgtree.specs.declared.Length.{Length}
 use Rattle.units.specs.declared.State.{State}
 use Rattle.units.specs.declared.Units.the-variants.{UserSpaceOnUse}
 use Rattle.units.specs.Lengths.{convertLength}
-use Rattle.fe_blur.specs.Floods.{splitAlpha}
-use Rattle.fe_color.specs.Numbers.{zero, one}
+use Rattle.fe_flood.specs.Flood.{splitAlpha}
 use Rattle.tree.specs.Input.{Input, SourceGraphic}
 use Rattle.tree.specs.Kinds.{Kind, ColorMatrix, ComponentTransfer, GaussianBlur, DropShadow, Matrix, Saturate, HueRotate, TransferFunction, Identity, Table, Linear, ComponentTransferFields}
 use Rattle.tree.specs.declared.GaussianBlur.{GaussianBlur as GaussianBlurFields}
@@ -40,22 +40,18 @@ a ÷ b = round binary32 false a b
 
 -- ---- amounts
 
--- an f64 narrowed to f32. A record with a number that is not finite is refused, so what stands for it is free: +0
-abbrev pub asF32 : Float → Float
-asF32 x = orZero (narrowed x)
-
 -- 1 as an f64
 abbrev pub one64 : Float
 one64 = ofBits binary64 0x3ff0_0000_0000_0000
 
--- for grayscale, sepia, invert and opacity an amount above 1 is 1: it is held in f64, and narrowed then. The document: an amount below 0 is an
--- error. The crate: it is taken as it is.
+-- for grayscale, sepia, invert and opacity an amount above 1 is 1: it is held in f64, and narrowed then. The document: an amount below 0 is an error. The
+-- crate: it is taken as it is. An amount beyond f32 is refusal 3 here; the crate holds it at 1.
 unfoldable pub held : Float → Float
 held x = asF32 (cond (lt one64 x) one64 x)
 
--- what is not a positive number becomes +0: a saturation or a deviation below 0. The document: that is an error.
+-- what is not a positive number becomes +0: a saturation or a deviation below 0. The document: that is an error. The crate: 0.
 unfoldable pub positiveOrZero : Float → Float
-positiveOrZero x = cond (positive x) x plusZero
+positiveOrZero x = cond (positive x) x zero
 
 -- ---- colour matrices: a row of five for each of red, green, blue and alpha
 
@@ -101,17 +97,17 @@ contrastIntercept amount = neg (1 ÷ 2 ⊗ amount) ⊕ 1 ÷ 2
 -- ---- lengths
 
 -- the number is narrowed first
-abbrev pub lengthOf : GivenLength → Length
-lengthOf l = record { number = asF32 (l .number); unit = l .unit }
+abbrev pub asLength : GivenLength → Length
+asLength l = record { number = asF32 (l .number); unit = l .unit }
 
 -- a record has no view box height, and none of its lengths asks for one
-abbrev pub stateOf : FunctionRecord → State
-stateOf r = record { «view_box» = record { width = orZero (r .viewBoxWidth); height = orZero (r .viewBoxWidth) }; dpi = orZero (r .dpi) }
+abbrev pub functionState : FunctionRecord → State
+functionState r = record { «view_box» = record { width = orZero (r .viewBoxWidth); height = orZero (r .viewBoxWidth) }; dpi = orZero (r .dpi) }
 
--- "For a function's blur, dx and dy alike it is the width": each length is converted as `dx`. The crate converts dy as `dy`, whose percentage is
--- of the view box height.
+-- "For a function's blur, dx and dy alike it is the width": each length is converted as `dx`. The crate converts dy as `dy`, whose percentage is of the view
+-- box height. The document: blur() and drop-shadow() take no percentage.
 unfoldable pub userLength : FunctionRecord → GivenLength → Float
-userLength r l = convertLength (lengthOf l) AId·Dx UserSpaceOnUse (stateOf r) (orZero (r .fontSize))
+userLength r l = convertLength (asLength l) AId·Dx UserSpaceOnUse (functionState r) (orZero (r .fontSize))
 
 abbrev pub deviationOf : FunctionRecord → GivenLength → Float
 deviationOf r l = positiveOrZero (userLength r l)
@@ -124,8 +120,8 @@ abbrev pub colorOr : Option Color → Color → Color
 colorOr (some c) fallback = c
 colorOr none fallback = fallback
 
-abbrev pub dropShadowOf : FunctionRecord → GivenShadow → DropShadowFields
-dropShadowOf r v =
+abbrev pub functionShadow : FunctionRecord → GivenShadow → DropShadowFields
+functionShadow r v =
     let c = splitAlpha (colorOr (v .color) (v .fallback)) in
     record {
       dx = userLength r (v .dx);
@@ -136,7 +132,8 @@ dropShadowOf r v =
       opacity = c .opacity;
     }
 
--- ---- the kind that each function gives, over SourceGraphic
+-- ---- the kind that each function gives, over SourceGraphic. The document: an amount of brightness or contrast below 0 is an error. The crate: it is taken
+-- as it is.
 
 abbrev pub kindBy : FunctionRecord → Function → Kind Input
 kindBy r (grayscale x) = ColorMatrix SourceGraphic (Matrix (grayscaleMatrix (held x)))
@@ -148,7 +145,7 @@ kindBy r (opacity x) = ComponentTransfer SourceGraphic (onAlpha (Table (opacityT
 kindBy r (brightness x) = ComponentTransfer SourceGraphic (onColors (Linear (asF32 x) zero))
 kindBy r (contrast x) = ComponentTransfer SourceGraphic (onColors (Linear (asF32 x) (contrastIntercept (asF32 x))))
 kindBy r (blur l) = GaussianBlur SourceGraphic (blurOf r l)
-kindBy r (dropShadow v) = DropShadow SourceGraphic (dropShadowOf r v)
+kindBy r (dropShadow v) = DropShadow SourceGraphic (functionShadow r v)
 
-abbrev pub kindOf : FunctionRecord → Kind Input
-kindOf r = kindBy r (r .function)
+abbrev pub functionKind : FunctionRecord → Kind Input
+functionKind r = kindBy r (r .function)

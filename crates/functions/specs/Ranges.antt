@@ -9,18 +9,19 @@ use Rattle.tree.specs.Kinds.{Kind, ColorMatrix, ComponentTransfer, DropShadow, 
 use Rattle.tree.specs.declared.GaussianBlur.{GaussianBlur as GaussianBlurFields}
 use Rattle.tree.specs.declared.DropShadow.{DropShadow as DropShadowFields}
 use Rattle.fe_blur.specs.Ranges.{GaussianBlurRange, DropShadowRange}
-use Rattle.fe_color.specs.Ranges.{Each, IsNumber, componentTransferNumbers}
+use Rattle.num.specs.Numbers.{Each, IsNumber}
+use Rattle.fe_color.specs.Ranges.{componentTransferNumbers}
 
 -- a positive number is finite, so it is no NaN. No function gives luminanceToAlpha.
-abbrev pub MatrixRange : ColorMatrixKind → Type 0
-MatrixRange (Matrix xs) = (length xs ≡ 20) × Each IsNumber xs
-MatrixRange (Saturate x) = T (positive x)
-MatrixRange (HueRotate x) = IsNumber x
-MatrixRange LuminanceToAlpha = ⊥
+abbrev pub FunctionMatrixRange : ColorMatrixKind → Type 0
+FunctionMatrixRange (Matrix xs) = (length xs ≡ 20) × Each IsNumber xs
+FunctionMatrixRange (Saturate x) = T (positive x)
+FunctionMatrixRange (HueRotate x) = IsNumber x
+FunctionMatrixRange LuminanceToAlpha = ⊥
 
 -- a function's kind is one of four. Deviations are positive and an opacity lies between 0 and 1, so these are no NaN either.
-pub data InRange : Kind Input → Type 0 where
-  colorMatrix : {a : Input} {v : ColorMatrixKind} → MatrixRange v → InRange (ColorMatrix a v)
-  componentTransfer : {a : Input} {v : ComponentTransferFields} → Each IsNumber (componentTransferNumbers v) → InRange (ComponentTransfer a v)
-  gaussianBlur : {a : Input} {v : GaussianBlurFields} → GaussianBlurRange v → InRange (GaussianBlur a v)
-  dropShadow : {a : Input} {v : DropShadowFields} → DropShadowRange v → InRange (DropShadow a v)
+pub data FunctionRange : Kind Input → Type 0 where
+  colorMatrix : {a : Input} {v : ColorMatrixKind} → FunctionMatrixRange v → FunctionRange (ColorMatrix a v)
+  componentTransfer : {a : Input} {v : ComponentTransferFields} → Each IsNumber (componentTransferNumbers v) → FunctionRange (ComponentTransfer a v)
+  gaussianBlur : {a : Input} {v : GaussianBlurFields} → GaussianBlurRange v → FunctionRange (GaussianBlur a v)
+  dropShadow : {a : Input} {v : DropShadowFields} → DropShadowRange v → FunctionRange (DropShadow a v)

@@ -6,9 +6,8 @@ ghost use Prim.Native.Nat.{_+_, _≤_, _<_};
 ghost use lib.ListN.{length};
 ghost use lib.Ieee.{binary64, ofBits, lt};
 ghost use Rattle.bits.specs.Patch.{Put};
-ghost use Rattle.fe_color.specs.Numbers.{zero};
-ghost use Rattle.sheet_layout.specs.Tests.{all};
-ghost use Rattle.sheet_check.specs.Numbers.{doubleOk};
+ghost use Rattle.num.specs.Constants.{plusZero as zero};
+ghost use Rattle.field_tests.specs.Tests.{all, doubleOk};
 ghost use Rattle.tree.specs.Input.{SourceGraphic, inputBytes};
 ghost use Rattle.tree.specs.Kinds as spec;
 ghost use Rattle.tree.specs.Fields.{transferFunctionBytes};
@@ -16,28 +15,36 @@ ghost use Rattle.tree.specs.List.{kindBytes};
 ghost use Rattle.tree.specs.Means.{colorMatrixKindIs, transferFunctionIs};
 ghost use Rattle.tree.specs.Sizes.{colorMatrixKindSize, componentTransferSize};
 ghost use Rattle.tree.specs.declared.TransferFunction.the-variants.{Linear};
-ghost use Rattle.functions.specs.Records.{givenLengthAt, flaggedColor, givenShadow, functionBy, codeOf, recordOf};
-ghost use Rattle.functions.specs.Functions.{one64, asF32, held, positiveOrZero, grayscaleMatrix, sepiaMatrix, onColors, onAlpha, invertTable, opacityTable, contrastIntercept, stateOf, userLength, deviationOf, blurOf, colorOr, dropShadowOf, kindOf};
-ghost use Rattle.functions.specs.Refusals.{refusalNumber, sizeBy, shadowOk, argumentsOk, layoutOk, numbersIn, numbersOk, firstRefusal};
+ghost use Rattle.functions.specs.Records.{Record·Argument, givenLengthAt, flaggedColor, givenShadow, functionBy, codeOf, functionRecord};
+ghost use Rattle.functions.specs.Functions.{one64, held, positiveOrZero, grayscaleMatrix, sepiaMatrix, onColors, onAlpha, invertTable, opacityTable, contrastIntercept, functionState, userLength, deviationOf, blurOf, colorOr, functionShadow, functionKind};
+ghost use Rattle.num.specs.Narrowed.{asF32};
+ghost use Rattle.functions.specs.Refusals.{sizeBy, shadowOk, argumentsOk, functionLayoutOk, functionNumbers, functionNumbersOk, functionRefusal};
 ghost use Rattle.functions.specs.Call.{ConvertedFunction};
+use answer::Answer;
+use answer::Checked;
+use answer::Refusal;
+use answer::give;
+use answer::refuse;
 use bits::byte;
 use bits::get32;
 use bits::get64;
 use bits::put_u8;
-use fe_blur::split_alpha;
+use fe_flood::split_alpha;
+use field_tests::is_double_at;
+use field_tests::is_positive_at;
+use field_tests::is_valid_length_at;
+use field_tests::is_view_box_length_at;
+use field_tests::marked_ok;
 use geom::Size;
 use names::aid;
 use num::double_narrowed;
 use num::is_positive;
 use num::single;
-use sheet_check::is_double_at;
-use sheet_check::is_positive_at;
-use sheet_check::is_valid_length_at;
-use sheet_check::is_view_box_length_at;
-use sheet_layout::marked_ok;
+use sheet_fields::marked;
+use sheet_fields::unit;
 use svgtree::Color;
-use svgtree::color_from;
-use svgtree::length_from;
+use svgtree::values::color_from;
+use svgtree::values::length_from;
 use tree::ColorMatrixKind;
 use tree::ComponentTransfer;
 use tree::DropShadow;
@@ -52,18 +59,31 @@ use units::State;
 use units::Units;
 use units::convert_length;
 
-// Why a record is refused, if it is. `refusalNumber` of specs/ gives the number.
-pub enum Refusal {
-    None,
-    Malformed,
-    BadNumber,
-    ShortOutput,
-}
+// Where the fields of a record stand.
+mod field {
+    pub const VIEW_BOX_WIDTH: usize = 0;
 
-// What a call answers: 0 and the kind's length, or a refusal's number and 0.
-pub struct Done {
-    pub number: u32,
-    pub length: usize,
+    pub const DPI: usize = 4;
+
+    pub const FONT_SIZE: usize = 8;
+
+    pub const CODE: usize = 12;
+
+    // The one argument of every function but drop-shadow, a number or a length.
+    pub const ARGUMENT: usize = 13;
+
+    // The arguments of drop-shadow.
+    pub const COLOR_FLAG: usize = 13;
+
+    pub const COLOR: usize = 14;
+
+    pub const FALLBACK: usize = 18;
+
+    pub const DX: usize = 22;
+
+    pub const DY: usize = 31;
+
+    pub const STD_DEVIATION: usize = 40;
 }
 
 // Amounts.
@@ -205,24 +225,24 @@ pub fn convert_contrast_function(amount: u64) -> TransferFunction
 // Lengths and colours of a record.
 
 fn state_of(s: &[u8]) -> State
-    ensures { λ r. ⌜ r ≡ stateOf (recordOf (now (s .entry))) ⌝ }
+    ensures { λ r. ⌜ r ≡ functionState (functionRecord (now (s .entry))) ⌝ }
 {
-    let width = single(get32(s, 0));
+    let width = single(get32(s, field::VIEW_BOX_WIDTH));
     State {
         view_box: Size {
             width,
             height: width,
         },
-        dpi: single(get32(s, 4)),
+        dpi: single(get32(s, field::DPI)),
     }
 }
 
 fn user_length(s: &[u8], at: usize) -> f32
     requires { ⌜ at < 256 ⌝ }
-    ensures { λ r. ⌜ r ≡ userLength (recordOf (now (s .entry))) (givenLengthAt (now (s .entry)) at) ⌝ }
+    ensures { λ r. ⌜ r ≡ userLength (functionRecord (now (s .entry))) (givenLengthAt (now (s .entry)) at) ⌝ }
 {
     let length = length_from(s, at);
-    let font_size = single(get32(s, 8));
+    let font_size = single(get32(s, field::FONT_SIZE));
     convert_length(
         length,
         aid::DX,
@@ -234,15 +254,15 @@ fn user_length(s: &[u8], at: usize) -> f32
 
 fn std_deviation(s: &[u8], at: usize) -> f32
     requires { ⌜ at < 256 ⌝ }
-    ensures { λ r. ⌜ r ≡ deviationOf (recordOf (now (s .entry))) (givenLengthAt (now (s .entry)) at) ⌝ }
+    ensures { λ r. ⌜ r ≡ deviationOf (functionRecord (now (s .entry))) (givenLengthAt (now (s .entry)) at) ⌝ }
 {
     positive_or_zero(user_length(s, at))
 }
 
 pub fn convert_blur_function(s: &[u8]) -> GaussianBlur
-    ensures { λ r. ⌜ r ≡ blurOf (recordOf (now (s .entry))) (givenLengthAt (now (s .entry)) 13) ⌝ }
+    ensures { λ r. ⌜ r ≡ blurOf (functionRecord (now (s .entry))) (givenLengthAt (now (s .entry)) Record·Argument) ⌝ }
 {
-    let std_dev = std_deviation(s, 13);
+    let std_dev = std_deviation(s, field::ARGUMENT);
     GaussianBlur {
         std_dev_x: std_dev,
         std_dev_y: std_dev,
@@ -252,20 +272,20 @@ pub fn convert_blur_function(s: &[u8]) -> GaussianBlur
 fn shadow_color(s: &[u8]) -> Color
     ensures { λ r. ⌜ r ≡ colorOr (flaggedColor (now (s .entry))) (givenShadow (now (s .entry)) .fallback) ⌝ }
 {
-    if byte(s, 13) == 1 {
-        return color_from(s, 14);
+    if byte(s, field::COLOR_FLAG) == 1 {
+        return color_from(s, field::COLOR);
     }
-    color_from(s, 18)
+    color_from(s, field::FALLBACK)
 }
 
 pub fn convert_drop_shadow_function(s: &[u8]) -> DropShadow
-    ensures { λ r. ⌜ r ≡ dropShadowOf (recordOf (now (s .entry))) (givenShadow (now (s .entry))) ⌝ }
+    ensures { λ r. ⌜ r ≡ functionShadow (functionRecord (now (s .entry))) (givenShadow (now (s .entry))) ⌝ }
 {
     let c = split_alpha(shadow_color(s));
     let color = c.color;
-    let dx = user_length(s, 22);
-    let dy = user_length(s, 31);
-    let std_dev = std_deviation(s, 40);
+    let dx = user_length(s, field::DX);
+    let dy = user_length(s, field::DY);
+    let std_dev = std_deviation(s, field::STD_DEVIATION);
     DropShadow {
         dx,
         dy,
@@ -382,16 +402,16 @@ fn record_size(code: u8) -> usize
 fn shadow_ok(s: &[u8]) -> bool
     ensures { λ r. ⌜ r ≡ shadowOk (now (s .entry)) ⌝ }
 {
-    if !marked_ok(s, byte(s, 13), 14, 4) {
+    if !marked_ok(s, byte(s, field::COLOR_FLAG), field::COLOR, 4) {
         return false;
     }
-    if 9 < byte(s, 22) {
+    if unit::PERCENT < byte(s, field::DX) {
         return false;
     }
-    if 9 < byte(s, 31) {
+    if unit::PERCENT < byte(s, field::DY) {
         return false;
     }
-    byte(s, 40) <= 9
+    byte(s, field::STD_DEVIATION) <= unit::PERCENT
 }
 
 fn arguments_ok(s: &[u8], code: u8) -> bool
@@ -401,15 +421,15 @@ fn arguments_ok(s: &[u8], code: u8) -> bool
         return true;
     }
     if code == 8 {
-        return byte(s, 13) <= 9;
+        return byte(s, field::ARGUMENT) <= unit::PERCENT;
     }
     shadow_ok(s)
 }
 
 fn layout_ok(s: &[u8]) -> bool
-    ensures { λ r. ⌜ r ≡ layoutOk (now (s .entry)) ⌝ }
+    ensures { λ r. ⌜ r ≡ functionLayoutOk (now (s .entry)) ⌝ }
 {
-    let code = byte(s, 12);
+    let code = byte(s, field::CODE);
     if 9 < code {
         return false;
     }
@@ -421,43 +441,58 @@ fn layout_ok(s: &[u8]) -> bool
 
 // Every f64 of a record.
 fn function_numbers_ok(s: &[u8]) -> bool
-    ensures { λ r. ⌜ r ≡ all doubleOk (numbersIn (functionBy (codeOf (now (s .entry))) (now (s .entry)))) ⌝ }
+    ensures { λ r. ⌜ r ≡ all doubleOk (functionNumbers (functionBy (codeOf (now (s .entry))) (now (s .entry)))) ⌝ }
 {
-    let code = byte(s, 12);
+    let code = byte(s, field::CODE);
     if code <= 7 {
-        return is_double_at(s, 13);
+        return is_double_at(s, field::ARGUMENT);
     }
     if code == 8 {
-        return is_double_at(s, 14);
+        return is_double_at(s, field::ARGUMENT + marked::NUMBER);
     }
-    if !is_double_at(s, 23) {
+    if !is_double_at(s, field::DX + marked::NUMBER) {
         return false;
     }
-    if !is_double_at(s, 32) {
+    if !is_double_at(s, field::DY + marked::NUMBER) {
         return false;
     }
-    is_double_at(s, 41)
+    is_double_at(s, field::STD_DEVIATION + marked::NUMBER)
 }
 
 fn numbers_ok(s: &[u8]) -> bool
-    ensures { λ r. ⌜ r ≡ numbersOk (recordOf (now (s .entry))) ⌝ }
+    ensures { λ r. ⌜ r ≡ functionNumbersOk (functionRecord (now (s .entry))) ⌝ }
 {
-    if !is_view_box_length_at(s, 0) {
+    if !is_view_box_length_at(s, field::VIEW_BOX_WIDTH) {
         return false;
     }
-    if !is_valid_length_at(s, 4) {
+    if !is_valid_length_at(s, field::DPI) {
         return false;
     }
-    if !is_positive_at(s, 8) {
+    if !is_positive_at(s, field::FONT_SIZE) {
         return false;
     }
     function_numbers_ok(s)
 }
 
-fn kind_size(s: &[u8]) -> usize
-    ensures { λ r. ⌜ r ≡ length (kindBytes (kindOf (recordOf (now (s .entry))))) ⌝ }
+// The first of 2 and 3.
+fn first_refusal(s: &[u8]) -> Checked
+    ensures { λ r. ⌜ r ≡ functionRefusal (now (s .entry)) ⌝ }
 {
-    let code = byte(s, 12);
+    if !layout_ok(s) {
+        return Checked::Refused(Refusal::Malformed);
+    }
+    if !numbers_ok(s) {
+        return Checked::Refused(Refusal::BadNumber);
+    }
+    Checked::Passed
+}
+
+// The whole call.
+
+fn kind_size(s: &[u8]) -> usize
+    ensures { λ r. ⌜ r ≡ length (kindBytes (functionKind (functionRecord (now (s .entry))))) ⌝ }
+{
+    let code = byte(s, field::CODE);
     match code {
         0 => 85,
         1 => 85,
@@ -472,42 +507,13 @@ fn kind_size(s: &[u8]) -> usize
     }
 }
 
-// The first of 2, 3 and 9; `room` is the output's length.
-fn first_refusal(s: &[u8], room: usize) -> Refusal
-    ensures { λ r. ⌜ r ≡ firstRefusal (now (s .entry)) room ⌝ }
-{
-    if !layout_ok(s) {
-        return Refusal::Malformed;
-    }
-    if !numbers_ok(s) {
-        return Refusal::BadNumber;
-    }
-    if room < kind_size(s) {
-        return Refusal::ShortOutput;
-    }
-    Refusal::None
-}
-
-fn refusal_number(refusal: Refusal) -> u32
-    ensures { λ r. ⌜ r ≡ refusalNumber refusal ⌝ }
-{
-    match refusal {
-        Refusal::None => 0,
-        Refusal::Malformed => 2,
-        Refusal::BadNumber => 3,
-        Refusal::ShortOutput => 9,
-    }
-}
-
-// The whole call.
-
 // The kind of a record that is not refused.
 fn put_function(s: &[u8], out: &mut [u8]) -> usize
-    requires { ⌜ length (kindBytes (kindOf (recordOf (now s)))) ≤ length (now out) ⌝ }
-    ensures { λ r. ⌜ Put (now (out .entry)) 0 (length (kindBytes (kindOf (recordOf (now (s .entry)))))) (kindBytes (kindOf (recordOf (now (s .entry))))) (now (out .exit)) r ⌝ }
+    requires { ⌜ length (kindBytes (functionKind (functionRecord (now s)))) ≤ length (now out) ⌝ }
+    ensures { λ r. ⌜ Put (now (out .entry)) 0 (length (kindBytes (functionKind (functionRecord (now (s .entry)))))) (kindBytes (functionKind (functionRecord (now (s .entry))))) (now (out .exit)) r ⌝ }
 {
-    let code = byte(s, 12);
-    let amount = get64(s, 13);
+    let code = byte(s, field::CODE);
+    let amount = get64(s, field::ARGUMENT);
     match code {
         0 => put_matrix(convert_grayscale_function(amount), out),
         1 => put_matrix(convert_sepia_function(amount), out),
@@ -530,13 +536,15 @@ fn put_function(s: &[u8], out: &mut [u8]) -> usize
 
 // Any bytes and any output. Ruled out among others: a matrix with the last bit of one coefficient changed, and one with two rows
 // swapped.
-pub fn convert_function(record: &[u8], out: &mut [u8]) -> Done
-    ensures { λ r. ⌜ ConvertedFunction (now («record» .entry)) (now (out .entry)) (r .number) (r .length) (now (out .exit)) ⌝ }
+pub fn convert_function(record: &[u8], out: &mut [u8]) -> Answer
+    ensures { λ r. ⌜ ConvertedFunction (now («record» .entry)) (now (out .entry)) r (now (out .exit)) ⌝ }
 {
-    let number = refusal_number(first_refusal(record, out.len()));
-    if number != 0 {
-        return Done { number, length: 0 };
+    let checked = first_refusal(record);
+    if let Checked::Refused(refusal) = checked {
+        return refuse(refusal);
     }
-    let length = put_function(record, out);
-    Done { number: 0, length }
+    if out.len() < kind_size(record) {
+        return refuse(Refusal::ShortOutput);
+    }
+    give(put_function(record, out))
 }

@@ -1,113 +1,114 @@
--- Every kind that is made of a node whose values fit is within the layout of lists: f32 holds its numbers, its counts are small, its texts fit.
+-- Every kind that is made of an accepted node is within the layout of lists: f32 holds its numbers, its counts are small, its texts fit.
 -- Assumes nothing.
 use Prim.Native.Nat.{ℕ, _≤_}
 use native.Mathlib.Omega.{arith}
-use mathlib.Core.Path.{sym, subst}
-use mathlib.Core.Bool.{Bool, true, false, cond, _&&_}
+use mathlib.Core.Path.{refl, sym, subst}
+use mathlib.Core.Bool.{_&&_}
 use mathlib.Core.List.{List, [], _∷_, _++_, map}
 use mathlib.Core.Option.{Option, none, some}
-use lib.Dec.{eqb}
+use lib.Dec.{T, eqb}
 use lib.ListN.{length, length-map}
-use lib.Ieee.{Float, binary32, mul, lt, le}
+use lib.Ieee.{Float, binary32, fits, mul}
 use lib.Ieee.Scale.{finite}
-use lib.Ieee.Fits.{sub-fits, mul-fits, div-fits}
+use lib.Ieee.Fits.{and-l, and-r, sub-fits, mul-fits, div-fits}
 use lib.Ieee.Bits.{ofBits-fits}
-use Rattle.bits.specs.Words.{word}
+use borrow.Author.Tests.{le-leb}
+use Rattle.answer.specs.declared.Refusal.the-variants.{Unrepresentable}
 use Rattle.names.specs.Ids as ids
-use Rattle.num.specs.Narrowed.{plusZero, orZero}
-use Rattle.num.specs.Sign.{f32Bound, nearZero, positive}
+use Rattle.num.specs.Constants.{plusZero, one, two}
+use Rattle.num.specs.Narrowed.{orZero}
+use Rattle.num.specs.Sign.{nearZero, positive}
 use Rattle.num.proofs.Finite.{orZero-fits}
 use Rattle.geom.specs.declared.Size.{Size}
 use Rattle.geom.specs.declared.MaybeRect.{MaybeRect}
 use Rattle.geom.specs.declared.MaybeRect.the-variants as rect
 use Rattle.svgtree.specs.Values.{Value, absent, textValue, numberValue, numbersValue, lengthValue, colorValue, triesValue, Node}
-use Rattle.svgtree.specs.Readers.{textIn, numberIn, numbersIn, lookup, textOf, numberOf, numbersOf, triesOf, orElse}
-use Rattle.tree.specs.Kinds.{ColorMatrixKind, Matrix, Saturate, HueRotate, LuminanceToAlpha, TransferFunction, Identity, Kind, ComponentTransfer, DropShadow, Flood, GaussianBlur, Merge, Offset, ConvolveMatrixData, ConvolveMatrixFields, inputsOf}
-use Rattle.tree.specs.Means.{identityMatrix}
-use Rattle.tree.specs.declared.CompositeOperator.{CompositeOperator}
-use Rattle.tree.specs.declared.CompositeOperator.the-variants as composite
-use Rattle.tree.specs.declared.LightSource.the-variants as source
+use Rattle.svgtree.specs.Readers.{textIn, numbersIn, lookup, textOf, numberOf, numbersOf, triesOf}
+use Rattle.field_tests.specs.Tests.{all}
+use Rattle.sheet_accepted.specs.Nodes.{AcceptedValue, AcceptedNode, EachAccepted}
+use Rattle.tree.specs.Kinds.{ColorMatrixKind, Matrix, Saturate, HueRotate, LuminanceToAlpha, Identity, Kind, ComponentTransfer, DropShadow, Flood, GaussianBlur, Merge, Offset, ConvolveMatrixData, ConvolveMatrixFields, inputsOf}
+use Rattle.tree.specs.declared.LightSource.{LightSource}
 use Rattle.tree.specs.declared.MorphologyOperator.{MorphologyOperator}
-use Rattle.units.specs.declared.Frame.{Frame}
+use Rattle.region.specs.declared.Frame.{Frame}
 use Rattle.units.specs.declared.Units.{Units}
 use Rattle.units.specs.declared.Units.the-variants as units
 use Rattle.subregion.specs.Subregions.{scaleIn, scaleOf}
-use Rattle.fe.specs.Attributes.{isWord, numberOr, one}
+use Rattle.fe.specs.Attributes.{numberOr}
 use Rattle.child.specs.Means.{inOf}
-use Rattle.fe_color.specs.Keywords.{Keyword, _means_, keyword}
-use Rattle.fe_color.specs.Numbers as color
-use Rattle.fe_color.specs.Numbers.{firstOr}
-use Rattle.fe_color.specs.ColorMatrix.{saturateOf, hueRotateOf, matrixOf, colorMatrixKindOf}
-use Rattle.fe_color.specs.ComponentTransfer.{orEmpty, tableValuesOf, transferFunctionOf, wanted, functionsOf, lastOr, componentTransferOf}
-use Rattle.fe_color.specs.Composite.{operatorOf}
-use Rattle.fe_color.specs.Ranges.{Each, colorMatrixNumbers, transferFunctionNumbers, componentTransferNumbers, operatorNumbers, ColorMatrixRange}
-use Rattle.fe_color.proofs.Finite.{color-matrix-range}
-use Rattle.fe_blur.specs.Deviations.{deviation, numbersOrDefault, gaussianBlurOf}
-use Rattle.fe_blur.specs.Floods.{alphaOpacity, floodColor, floodOf, transparentBlack}
-use Rattle.fe_blur.specs.Offsets.{two, offsetFieldsOf, dropShadowOf}
-use Rattle.fe_light.specs.declared.MaybeLight.{MaybeLight}
-use Rattle.fe_light.specs.declared.MaybeLight.the-variants as light
-use Rattle.fe_light.specs.declared.MaybeSpecularLighting.{MaybeSpecularLighting}
-use Rattle.fe_light.specs.declared.MaybeSpecularLighting.the-variants as specular
-use Rattle.fe_light.specs.Lights.{distantLightOf, pointLightOf, spotLightOf, optionOf, lightOf, orLater, lightSourceOf}
-use Rattle.fe_light.specs.Lighting.{diffuseWith, exponentInRange, specularWith}
-use Rattle.fe_light.specs.Ranges.{optionNumbers, lightNumbers}
-use Rattle.fe_kernel.specs.declared.Order.{Order}
-use Rattle.fe_kernel.specs.declared.MaybeTarget.{MaybeTarget}
-use Rattle.fe_kernel.specs.declared.MaybeTarget.the-variants as target
-use Rattle.fe_kernel.specs.Cells.{orderOf, targetOf}
+use Rattle.fe_color.specs.ColorMatrix.{colorMatrixKindOf}
+use Rattle.fe_color.specs.ComponentTransfer.{orEmpty, transferFunctionOf, functionsOf, lastOr, componentTransferOf}
+use Rattle.num.specs.Numbers.{Each}
+use Rattle.num.proofs.Each.{choose, _and_, each-append}
+use Rattle.fe_color.specs.Ranges.{ColorMatrixRange}
+use Rattle.fe_color.proofs.Numbers.{OptionHolds, last-holds, color-matrix-holds, component-transfer-holds, operator-holds, color-matrix-range}
+use Rattle.fe_blur.specs.GaussianBlur.{deviation, numbersOrDefault, gaussianBlurOf}
+use Rattle.fe_flood.specs.Flood.{alphaOpacity, floodColor, floodOf, transparentBlack}
+use Rattle.fe_blur.specs.Offset.{offsetFieldsOf}
+use Rattle.fe_blur.specs.DropShadow.{dropShadowOf}
+use Rattle.fe_light.specs.declared.light_source.MaybeLight.{MaybeLight}
+use Rattle.fe_light.specs.declared.light_source.MaybeLight.the-variants as light
+use Rattle.fe_light.specs.declared.specular_lighting.MaybeSpecularLighting.{MaybeSpecularLighting}
+use Rattle.fe_light.specs.declared.specular_lighting.MaybeSpecularLighting.the-variants as specular
+use Rattle.fe_light.specs.LightSource.{lightSourceOf}
+use Rattle.fe_light.specs.DiffuseLighting.{diffuseWith}
+use Rattle.fe_light.specs.SpecularLighting.{exponentInRange, specularWith}
+use Rattle.fe_light.specs.Ranges.{lightNumbers}
+use Rattle.fe_kernel.specs.declared.order.Order.{Order}
+use Rattle.fe_kernel.specs.declared.target.MaybeTarget.{MaybeTarget}
+use Rattle.fe_kernel.specs.declared.target.MaybeTarget.the-variants as target
+use Rattle.fe_kernel.specs.Order.{orderOf}
+use Rattle.fe_kernel.specs.Target.{targetOf}
 use Rattle.fe_kernel.specs.Divisor.{million, kernelSum, defaultDivisor, divisorOf}
-use Rattle.fe_kernel.specs.Convolution.{matrixWith, convolveWith, convolveOf, convolveMatrixOf}
-use Rattle.fe_kernel.specs.Convolution as kernel
-use Rattle.fe_shape.specs.declared.Pair.{Pair}
-use Rattle.fe_shape.specs.declared.MaybePair.{MaybePair}
-use Rattle.fe_shape.specs.declared.MaybePair.the-variants as maybe-pair
-use Rattle.fe_shape.specs.declared.MaybeDisplacementMap.{MaybeDisplacementMap}
-use Rattle.fe_shape.specs.declared.MaybeDisplacementMap.the-variants as displacement
-use Rattle.fe_shape.specs.Pairs.{both, pairIn, signsClear, ifPositive}
-use Rattle.fe_shape.specs.Morphologies.{onesForZeros, unitRadius, scaledRadius, radiusOf, morphologyWith}
-use Rattle.fe_shape.specs.Morphologies as morphologies
-use Rattle.fe_shape.specs.Displacements.{boxSum, displacementWith, displacementMapOf}
-use Rattle.fe_shape.specs.Turbulences.{frequencyOf, turbulenceWith}
-use Rattle.chain.specs.Elements.{Made, made, unsupported, six, seven, elements, kindOf, in2Of, convolveMade, diffuseMade, specularMade, morphologyMade, displacementMade, turbulenceMade}
+use Rattle.fe_kernel.specs.ConvolveMatrix.{matrixWith, convolveWith, convolveOf, convolveMatrixOf, kernelMatrixOf}
+use Rattle.fe.specs.declared.pair.Pair.{Pair}
+use Rattle.fe.specs.declared.pair.MaybePair.{MaybePair}
+use Rattle.fe.specs.declared.pair.MaybePair.the-variants as maybe-pair
+use Rattle.fe_displacement_map.specs.declared.MaybeDisplacementMap.{MaybeDisplacementMap}
+use Rattle.fe_displacement_map.specs.declared.MaybeDisplacementMap.the-variants as displacement
+use Rattle.fe.specs.Pairs.{both, pairIn, signsClear, ifPositive}
+use Rattle.fe_morphology.specs.Morphology.{onesForZeros, unitRadius, scaledRadius, radiusOf, morphologyWith, morphologyOperatorOf}
+use Rattle.fe_displacement_map.specs.DisplacementMap.{boxSum, displacementWith, displacementMapOf}
+use Rattle.fe_turbulence.specs.Turbulence.{frequencyOf, turbulenceWith}
+use Rattle.fe.proofs.Keywords.{keyword-holds}
+use Rattle.fe.proofs.Numbers.{ValueHolds, NodeHolds, number-or}
+use Rattle.fe.proofs.Pairs.{PairHolds, pair-holds}
+use Rattle.fe_light.proofs.Numbers.{LightHolds, first-holds, light-holds}
+use Rattle.chain.specs.Elements.{Made, made, elements, kindOf, in2Of, convolveMade, diffuseMade, specularMade, morphologyMade, displacementMade, turbulenceMade}
 use Rattle.ranges.specs.Numbers.{kindNumbers}
-use Rattle.ranges.proofs.KindNumbers.{each-append, All, by-tag, _and_}
-use Rattle.list_read.specs.Records.{Name}
+use Rattle.ranges.proofs.Children.{MadeAll, AnyRefusal, All, by-tag}
+use Rattle.tree.specs.Input.{Name}
 use Rattle.list_read_back.specs.Claim.{Fits}
 use Rattle.list_read_back.specs.Reading.{KindWithin, TransferWithin, ColorMatrixWithin}
-use Rattle.list_within.specs.Fitting.{NumbersFit, ValueFit, NodeFit, NodesFit, OptionFit, OptionsFit}
+use Rattle.list_within.specs.Fitting.{NumbersFit, OptionFit, OptionsFit}
 
 -- ---- what is read of a node
 
-each-read : (xs : List Float) → Each Fits xs → Each Fits (map orZero xs)
+each-read : (xs : List Float) → T (all (fits binary32) xs) → Each Fits (map orZero xs)
+unfolding all
 each-read [] h = tt
-each-read (x ∷ xs) h = (orZero-fits x (h .0), each-read xs (h .1))
+each-read (x ∷ xs) h = (orZero-fits x (and-l (fits binary32 x) (all (fits binary32) xs) h), each-read xs (and-r (fits binary32 x) (all (fits binary32) xs) h))
 
-number-in : (v : Value) (d : Float) → ValueFit v → Fits d → Fits (orElse (numberIn v) d)
-unfolding numberIn
-number-in absent d h k = k
-number-in (textValue t) d h k = k
-number-in (numberValue x) d h k = orZero-fits x h
-number-in (numbersValue xs) d h k = k
-number-in (lengthValue u x) d h k = k
-number-in (colorValue c) d h k = k
-number-in (triesValue t) d h k = k
+value-fits : (v : Value) → AcceptedValue v → ValueHolds Fits v
+value-fits absent h = tt
+value-fits (textValue t) h = tt
+value-fits (numberValue x) h = orZero-fits x h
+value-fits (numbersValue xs) h = each-read xs (h .0)
+value-fits (lengthValue u x) h = tt
+value-fits (colorValue c) h = tt
+value-fits (triesValue t) h = tt
 
-option-in : (v : Value) → ValueFit v → Each Fits (optionNumbers (optionOf (numberIn v)))
-unfolding numberIn
-option-in absent h = tt
-option-in (textValue t) h = tt
-option-in (numberValue x) h = (orZero-fits x h, tt)
-option-in (numbersValue xs) h = tt
-option-in (lengthValue u x) h = tt
-option-in (colorValue c) h = tt
-option-in (triesValue t) h = tt
+node-fits : (n : Node) → AcceptedNode n → NodeHolds Fits n
+node-fits n h id = value-fits (lookup id (n .attributes)) (h .value id)
+
+nodes-fit : (ns : List Node) → EachAccepted ns → Each (NodeHolds Fits) ns
+nodes-fit [] h = tt
+nodes-fit (n ∷ ns) h = (node-fits n (h .0), nodes-fit ns (h .1))
 
 abbrev ListFit : Option (List Float) → Type 0
 ListFit none = Unit {0}
 ListFit (some xs) = NumbersFit xs
 
-numbers-in : (v : Value) → ValueFit v → ListFit (numbersIn v)
+numbers-in : (v : Value) → AcceptedValue v → ListFit (numbersIn v)
 unfolding numbersIn
 numbers-in absent h = tt
 numbers-in (textValue t) h = tt
@@ -117,24 +118,21 @@ numbers-in (lengthValue u x) h = tt
 numbers-in (colorValue c) h = tt
 numbers-in (triesValue t) h = tt
 
-text-in : (v : Value) → ValueFit v → OptionFit (textIn v)
+text-in : (v : Value) → AcceptedValue v → OptionFit (textIn v)
 unfolding textIn
 text-in absent h = tt
-text-in (textValue t) h = h
+text-in (textValue t) h = rw (le-leb (length t) 255 (h .0), h .1) refl
 text-in (numberValue x) h = tt
 text-in (numbersValue xs) h = tt
 text-in (lengthValue u x) h = tt
 text-in (colorValue c) h = tt
 text-in (triesValue t) h = tt
 
-pub text-of : (n : Node) → NodeFit n → (id : ℕ) → OptionFit (textOf n id)
-text-of n h id = text-in (lookup id (n .attributes)) (h id)
+pub text-of : (n : Node) → AcceptedNode n → (id : ℕ) → OptionFit (textOf n id)
+text-of n h id = text-in (lookup id (n .attributes)) (h .value id)
 
-numbers-of : (n : Node) → NodeFit n → (id : ℕ) → ListFit (numbersOf n id)
-numbers-of n h id = numbers-in (lookup id (n .attributes)) (h id)
-
-number-or : (n : Node) → NodeFit n → (id : ℕ) (d : Float) → Fits d → Fits (numberOr n id d)
-number-or n h id d k = number-in (lookup id (n .attributes)) d (h id) k
+numbers-of : (n : Node) → AcceptedNode n → (id : ℕ) → ListFit (numbersOf n id)
+numbers-of n h id = numbers-in (lookup id (n .attributes)) (h .value id)
 
 zero-fits : Fits plusZero
 zero-fits = ofBits-fits binary32 0
@@ -142,67 +140,13 @@ zero-fits = ofBits-fits binary32 0
 one-fits : Fits one
 one-fits = ofBits-fits binary32 0x3f80_0000
 
-zero-or : (n : Node) → NodeFit n → (id : ℕ) → Fits (numberOr n id plusZero)
-zero-or n h id = number-or n h id plusZero zero-fits
+zero-or : (n : Node) → AcceptedNode n → (id : ℕ) → Fits (numberOr n id plusZero)
+zero-or n h id = number-or Fits n (node-fits n h) id plusZero zero-fits
 
-one-or : (n : Node) → NodeFit n → (id : ℕ) → Fits (numberOr n id one)
-one-or n h id = number-or n h id one one-fits
-
--- ---- what holds of each keyword's value and of the default holds of what is read
-
-module _ {A : Type 0} (P : A → Type 0) where
-  abbrev Values : List (Keyword A) → Type 0
-  Values [] = Unit {0}
-  Values (w means v ∷ ks) = P v × Values ks
-
-  choose : (b : Bool) (x y : A) → P x → P y → P (cond b x y)
-  choose true x y p q = p
-  choose false x y p q = q
-
-  keyword-holds : (ks : List (Keyword A)) (default : A) (t : Option (List ℕ)) → Values ks → P default → P (keyword ks default t)
-  unfolding keyword
-  keyword-holds [] default t h d = d
-  keyword-holds (w means v ∷ ks) default t h d = choose (isWord t (word w)) v (keyword ks default t) (h .0) (keyword-holds ks default t (h .1) d)
+one-or : (n : Node) → AcceptedNode n → (id : ℕ) → Fits (numberOr n id one)
+one-or n h id = number-or Fits n (node-fits n h) id one one-fits
 
 -- ---- feColorMatrix
-
-identity-fit : Each Fits identityMatrix
-unfolding identityMatrix
-identity-fit =
-    let z = zero-fits in
-    let o = one-fits in
-    o and z and z and z and z
-    and z and o and z and z and z
-    and z and z and o and z and z
-    and z and z and z and o and z
-    and tt
-
-first-fit : (d : Float) (xs : List Float) → Fits d → Each Fits xs → Fits (firstOr d xs)
-first-fit d [] k h = k
-first-fit d (x ∷ xs) k h = h .0
-
-bound-fit : (v : Float) → Fits v → Fits (f32Bound color.zero v color.one)
-bound-fit v h = choose Fits (lt color.one v) color.one (cond (le color.zero v) v color.zero) one-fits (choose Fits (le color.zero v) v color.zero h zero-fits)
-
-saturate-fit : (values : Option (List Float)) → ListFit values → Each Fits (colorMatrixNumbers (saturateOf values))
-saturate-fit none h = identity-fit
-saturate-fit (some xs) h = (bound-fit (firstOr color.one xs) (first-fit color.one xs one-fits (h .0)), tt)
-
-hue-fit : (values : Option (List Float)) → ListFit values → Each Fits (colorMatrixNumbers (hueRotateOf values))
-hue-fit none h = identity-fit
-hue-fit (some xs) h = (first-fit color.zero xs zero-fits (h .0), tt)
-
-matrix-fit : (values : Option (List Float)) → ListFit values → Each Fits (colorMatrixNumbers (matrixOf values))
-matrix-fit none h = identity-fit
-matrix-fit (some xs) h = choose (λ (k : ColorMatrixKind). Each Fits (colorMatrixNumbers k)) (eqb (length xs) 20) (Matrix xs) (Matrix identityMatrix) (h .0) identity-fit
-
-color-matrix-fit : (n : Node) → NodeFit n → Each Fits (colorMatrixNumbers (colorMatrixKindOf n))
-color-matrix-fit n h =
-    let values = numbersOf n ids.AId·Values in
-    let k = numbers-of n h ids.AId·Values in
-    keyword-holds (λ (k : ColorMatrixKind). Each Fits (colorMatrixNumbers k)) _ (matrixOf values) (textOf n ids.AId·Type)
-    (saturate-fit values k and hue-fit values k and tt and tt)
-    (matrix-fit values k)
 
 color-within : (v : ColorMatrixKind) → ColorMatrixRange v → ColorMatrixWithin v
 color-within (Matrix xs) h = h
@@ -212,66 +156,22 @@ color-within LuminanceToAlpha h = tt
 
 -- ---- feComponentTransfer
 
-abbrev FunctionFit : TransferFunction → Type 0
-FunctionFit f = Each Fits (transferFunctionNumbers f) × TransferWithin f
+table-within : (o : Option (List Float)) → ListFit o → length (orEmpty o) ≤ 1024
+table-within none h = omega arith
+table-within (some xs) h = h .1
 
-abbrev FunctionsFit : Option TransferFunction → Type 0
-FunctionsFit none = Unit {0}
-FunctionsFit (some f) = FunctionFit f
-
-table-fit : (o : Option (List Float)) → ListFit o → NumbersFit (orEmpty o)
-table-fit none h = (tt, omega arith)
-table-fit (some xs) h = h
-
-function-fit : (n : Node) → NodeFit n → FunctionsFit (transferFunctionOf n)
+function-within : (n : Node) → AcceptedNode n → OptionHolds TransferWithin (transferFunctionOf n)
 unfolding transferFunctionOf
-function-fit n h =
-    let t : NumbersFit (tableValuesOf n) = table-fit (numbersOf n ids.AId·TableValues) (numbers-of n h ids.AId·TableValues) in
-    keyword-holds FunctionsFit _ none (textOf n ids.AId·Type)
-    ((tt and tt)
-    and (t .0 and t .1)
-    and (t .0 and t .1)
-    and ((one-or n h ids.AId·Slope and zero-or n h ids.AId·Intercept and tt) and tt)
-    and ((one-or n h ids.AId·Amplitude and one-or n h ids.AId·Exponent and zero-or n h ids.AId·Offset and tt) and tt)
-    and tt)
-    tt
+function-within n h =
+    let t = table-within (numbersOf n ids.AId·TableValues) (numbers-of n h ids.AId·TableValues) in
+    keyword-holds (OptionHolds TransferWithin) _ none (textOf n ids.AId·Type) (tt and t and t and tt and tt and tt) tt
 
-last-wanted : (b : Bool) (o : Option TransferFunction) (d : TransferFunction) (fs : List TransferFunction)
-    → ((f : TransferFunction) → FunctionFit f → FunctionFit (lastOr f fs)) → FunctionsFit o → FunctionFit d → FunctionFit (lastOr d (wanted b o ++ fs))
-unfolding lastOr
-last-wanted true (some f) d fs r h k = r f h
-last-wanted true none d fs r h k = r d k
-last-wanted false o d fs r h k = r d k
+each-accepted : (ns : List Node) → EachAccepted ns → Each AcceptedNode ns
+each-accepted [] h = tt
+each-accepted (n ∷ ns) h = (h .0, each-accepted ns (h .1))
 
-last-fit : (tag : ℕ) (children : List Node) → NodesFit children → (d : TransferFunction) → FunctionFit d → FunctionFit (lastOr d (functionsOf tag children))
-unfolding functionsOf lastOr
-last-fit tag [] c d h = h
-last-fit tag (n ∷ ns) c d h =
-    last-wanted (eqb (n .tag) tag) (transferFunctionOf n) d (functionsOf tag ns) (last-fit tag ns (c .1)) (function-fit n (c .0)) h
-
-module _ (children : List Node) (c : NodesFit children) where
-  channel-fit : (tag : ℕ) → FunctionFit (lastOr Identity (functionsOf tag children))
-  channel-fit tag = last-fit tag children c Identity (tt, tt)
-
-  transfer-fit : Each Fits (componentTransferNumbers (componentTransferOf children))
-  transfer-fit =
-      let f : ℕ → List Float = λ tag. transferFunctionNumbers (lastOr Identity (functionsOf tag children)) in
-      let h : (tag : ℕ) → Each Fits (f tag) = λ tag. channel-fit tag .0 in
-      let r = ids.EId·FeFuncR in
-      let g = ids.EId·FeFuncG in
-      let b = ids.EId·FeFuncB in
-      let a = ids.EId·FeFuncA in
-      each-append Fits (f r ++ f g ++ f b) (f a) (each-append Fits (f r ++ f g) (f b) (each-append Fits (f r) (f g) (h r) (h g)) (h b)) (h a)
-
--- ---- feComposite
-
-operator-fit : (n : Node) → NodeFit n → Each Fits (operatorNumbers (operatorOf n))
-operator-fit n h =
-    keyword-holds (λ (o : CompositeOperator). Each Fits (operatorNumbers o)) _ composite.Over (textOf n ids.AId·Operator)
-    (tt and tt and tt and tt and tt
-    and (zero-or n h ids.AId·K1 and zero-or n h ids.AId·K2 and zero-or n h ids.AId·K3 and zero-or n h ids.AId·K4 and tt)
-    and tt)
-    tt
+channel-within : (children : List Node) → EachAccepted children → (tag : ℕ) → TransferWithin (lastOr Identity (functionsOf tag children))
+channel-within children c tag = last-holds AcceptedNode TransferWithin function-within tag children (each-accepted children c) Identity tt
 
 -- ---- a kind whose inputs are texts of the sheet
 
@@ -281,10 +181,7 @@ pub record KindFit (k : Kind (Option Name)) : Type 0 where
   pub inputs : OptionsFit (inputsOf k)
 
 abbrev pub MadeFit : Made → Type 0
-MadeFit (made k) = KindFit k
-MadeFit unsupported = Unit {0}
-MadeFit six = Unit {0}
-MadeFit seven = Unit {0}
+MadeFit m = MadeAll KindFit AnyRefusal m
 
 flood-fit : MadeFit (made (Flood transparentBlack))
 unfolding inputsOf
@@ -293,44 +190,16 @@ flood-fit = record { numbers = (zero-fits, tt); counts = tt; inputs = tt }
 -- ---- lights
 
 abbrev LightFit : MaybeLight → Type 0
-LightFit (light.Is l) = Each Fits (lightNumbers l)
-LightFit light.No = Unit {0}
+LightFit m = LightHolds (λ (l : LightSource). Each Fits (lightNumbers l)) m
 
-spot-fit : (n : Node) → NodeFit n → Each Fits (lightNumbers (source.SpotLight (spotLightOf n)))
-spot-fit n h =
-    zero-or n h ids.AId·X and zero-or n h ids.AId·Y and zero-or n h ids.AId·Z
-    and zero-or n h ids.AId·PointsAtX and zero-or n h ids.AId·PointsAtY and zero-or n h ids.AId·PointsAtZ
-    and choose Fits (positive (numberOr n ids.AId·SpecularExponent one)) (numberOr n ids.AId·SpecularExponent one) one (one-or n h ids.AId·SpecularExponent) one-fits
-    and option-in (lookup ids.AId·LimitingConeAngle (n .attributes)) (h ids.AId·LimitingConeAngle)
-
-light-fit : (n : Node) → NodeFit n → LightFit (lightOf n)
-unfolding lightOf
-light-fit n h =
-    choose LightFit (eqb (n .tag) ids.EId·FeDistantLight) (light.Is (source.DistantLight (distantLightOf n))) _ (zero-or n h ids.AId·Azimuth and zero-or n h ids.AId·Elevation and tt)
-    (choose LightFit (eqb (n .tag) ids.EId·FePointLight) (light.Is (source.PointLight (pointLightOf n))) _ (zero-or n h ids.AId·X and zero-or n h ids.AId·Y and zero-or n h ids.AId·Z and tt)
-    (choose LightFit (eqb (n .tag) ids.EId·FeSpotLight) (light.Is (source.SpotLight (spotLightOf n))) light.No (spot-fit n h) tt))
-
-later-fit : (x y : MaybeLight) → LightFit x → LightFit y → LightFit (orLater x y)
-later-fit (light.Is l) y h k = h
-later-fit light.No y h k = k
-
-source-fit : (children : List Node) → NodesFit children → LightFit (lightSourceOf children)
-unfolding lightSourceOf
-source-fit [] h = tt
-source-fit (n ∷ rest) h = later-fit (lightOf n) (lightSourceOf rest) (light-fit n (h .0)) (source-fit rest (h .1))
+source-fit : (children : List Node) → EachAccepted children → LightFit (lightSourceOf children)
+source-fit children c =
+    first-holds (NodeHolds Fits) (λ (l : LightSource). Each Fits (lightNumbers l)) (light-holds Fits zero-fits one-fits) children (nodes-fit children c)
 
 -- ---- pairs
 
 abbrev PairFit : MaybePair → Type 0
-PairFit (maybe-pair.Is p) = Fits (p .x) × Fits (p .y)
-PairFit maybe-pair.No = Unit {0}
-
-pair-in : (xs : List Float) → Each Fits xs → PairFit (maybe-pair.Is (pairIn xs))
-unfolding pairIn
-pair-in [] h = (zero-fits, zero-fits)
-pair-in (x ∷ []) h = (h .0, h .0)
-pair-in (x ∷ y ∷ []) h = (h .0, h .1 .0)
-pair-in (x ∷ y ∷ z ∷ rest) h = (zero-fits, zero-fits)
+PairFit m = PairHolds Fits m
 
 if-positive : (p : Pair) → PairFit (maybe-pair.Is p) → PairFit (ifPositive p)
 unfolding ifPositive
@@ -338,7 +207,7 @@ if-positive p h = choose PairFit (positive (p .x) && positive (p .y)) (maybe-pai
 
 frequency-fit : (o : Option (List Float)) → ListFit o → PairFit (frequencyOf o)
 frequency-fit none h = (zero-fits, zero-fits)
-frequency-fit (some xs) h = choose PairFit (signsClear (pairIn xs)) (ifPositive (pairIn xs)) (maybe-pair.Is (both plusZero plusZero)) (if-positive (pairIn xs) (pair-in xs (h .0))) (zero-fits, zero-fits)
+frequency-fit (some xs) h = choose PairFit (signsClear (pairIn xs)) (ifPositive (pairIn xs)) (maybe-pair.Is (both plusZero plusZero)) (if-positive (pairIn xs) (pair-holds Fits zero-fits xs (h .0))) (zero-fits, zero-fits)
 
 -- ---- the scale
 
@@ -372,13 +241,13 @@ divisor-fit xs = choose Fits (nearZero (kernelSum xs)) one (kernelSum xs) one-fi
 
 -- ---- the inputs of a merge
 
-pub inputs-fit : (ns : List Node) → NodesFit ns → OptionsFit (map inOf ns)
+pub inputs-fit : (ns : List Node) → EachAccepted ns → OptionsFit (map inOf ns)
 inputs-fit [] h = tt
 inputs-fit (n ∷ ns) h = (text-of n (h .0) ids.AId·In, inputs-fit ns (h .1))
 
 -- ---- the elements, one line a tag
 
-module _ (f : Frame) (n : Node) (children : List Node) (ok : NodeFit n) (cs : NodesFit children) (few : length children ≤ 511) where
+module _ (f : Frame) (n : Node) (children : List Node) (ok : AcceptedNode n) (cs : EachAccepted children) (few : length children ≤ 511) where
   a : OptionFit (inOf n)
   a = text-of n ok ids.AId·In
 
@@ -419,8 +288,8 @@ module _ (f : Frame) (n : Node) (children : List Node) (ok : NodeFit n) (cs : No
   component-transfer-fit : MadeFit (made (ComponentTransfer (inOf n) (componentTransferOf children)))
   unfolding inputsOf
   component-transfer-fit =
-      let w : (tag : ℕ) → TransferWithin (lastOr Identity (functionsOf tag children)) = λ tag. channel-fit children cs tag .1 in
-      record { numbers = transfer-fit children cs; counts = (w ids.EId·FeFuncR, w ids.EId·FeFuncG, w ids.EId·FeFuncB, w ids.EId·FeFuncA); inputs = (a, tt) }
+      let w : (tag : ℕ) → TransferWithin (lastOr Identity (functionsOf tag children)) = λ tag. channel-within children cs tag in
+      record { numbers = component-transfer-holds Fits zero-fits one-fits children (nodes-fit children cs); counts = (w ids.EId·FeFuncR, w ids.EId·FeFuncG, w ids.EId·FeFuncB, w ids.EId·FeFuncA); inputs = (a, tt) }
 
   -- the kernel
 
@@ -444,8 +313,8 @@ module _ (f : Frame) (n : Node) (children : List Node) (ok : NodeFit n) (cs : No
   convolve-of : (o : Option (List Float)) → ListFit o → FieldsFit (convolveOf n o)
   convolve-of none h = tt
   convolve-of (some xs) h =
-      choose FieldsFit (nearZero (divisorOf n xs)) none (convolveWith n (divisorOf n xs) (kernel.matrixOf n xs)) tt
-      (convolve-with (divisorOf n xs) (kernel.matrixOf n xs) (number-or n ok ids.AId·Divisor (defaultDivisor xs) (divisor-fit xs))
+      choose FieldsFit (nearZero (divisorOf n xs)) none (convolveWith n (divisorOf n xs) (kernelMatrixOf n xs)) tt
+      (convolve-with (divisorOf n xs) (kernelMatrixOf n xs) (number-or Fits n (node-fits n ok) ids.AId·Divisor (defaultDivisor xs) (divisor-fit xs))
       (matrix-with (orderOf n) (targetOf (numberOf n ids.AId·TargetX) (orderOf n .columns)) (targetOf (numberOf n ids.AId·TargetY) (orderOf n .rows)) xs h))
 
   convolve-made : (o : Option ConvolveMatrixFields) → FieldsFit o → MadeFit (convolveMade n o)
@@ -479,7 +348,7 @@ module _ (f : Frame) (n : Node) (children : List Node) (ok : NodeFit n) (cs : No
   displacement-made : MadeFit (displacementMade n (displacementMapOf n (scaleOf f)))
   unfolding inputsOf
   displacement-made =
-      choose (λ (m : MaybeDisplacementMap). MadeFit (displacementMade n m)) (finite (boxSum (scaleOf f))) (displacement.Is (displacementWith n (boxSum (scaleOf f)))) displacement.BoxNotFinite
+      choose (λ (m : MaybeDisplacementMap). MadeFit (displacementMade n m)) (finite (boxSum (scaleOf f))) (displacement.Is (displacementWith n (boxSum (scaleOf f)))) (displacement.Refused Unrepresentable)
       (record { numbers = mul-fits binary32 (numberOr n ids.AId·Scale plusZero) _ and tt; counts = tt; inputs = (a, (b, tt)) })
       tt
 
@@ -491,13 +360,13 @@ module _ (f : Frame) (n : Node) (children : List Node) (ok : NodeFit n) (cs : No
       and offset-fit
       and record { numbers = tt; counts = tt; inputs = (a, (b, tt)) }
       and record { numbers = opacity-fit and tt; counts = tt; inputs = tt }
-      and record { numbers = operator-fit n ok; counts = tt; inputs = (a, (b, tt)) }
+      and record { numbers = operator-holds Fits zero-fits one-fits n (node-fits n ok); counts = tt; inputs = (a, (b, tt)) }
       and merge-fit
       and record { numbers = tt; counts = tt; inputs = (a, tt) }
       and component-transfer-fit
-      and record { numbers = color-matrix-fit n ok; counts = color-within (colorMatrixKindOf n) (color-matrix-range n); inputs = (a, tt) }
+      and record { numbers = color-matrix-holds Fits zero-fits one-fits n (node-fits n ok); counts = color-within (colorMatrixKindOf n) (color-matrix-range n); inputs = (a, tt) }
       and convolve-made (convolveMatrixOf n) (convolve-of (numbersOf n ids.AId·KernelMatrix) (numbers-of n ok ids.AId·KernelMatrix))
-      and morphology-made (morphologies.operatorOf n) (radiusOf (numbersOf n ids.AId·Radius) (scaleOf f)) (radius-fit (scaleOf f) (scale-fit f) (numbersOf n ids.AId·Radius))
+      and morphology-made (morphologyOperatorOf n) (radiusOf (numbersOf n ids.AId·Radius) (scaleOf f)) (radius-fit (scaleOf f) (scale-fit f) (numbersOf n ids.AId·Radius))
       and displacement-made
       and turbulence-made (frequencyOf (numbersOf n ids.AId·BaseFrequency)) (frequency-fit (numbersOf n ids.AId·BaseFrequency) (numbers-of n ok ids.AId·BaseFrequency))
       and diffuse-made (lightSourceOf children) (source-fit children cs)

@@ -15,8 +15,8 @@ use Rattle.tree.specs.Input as tree
 use Rattle.naming.specs.Names.{member, digits, digitsUpTo, w-result, madeName, free, Label, Own, Made, nameOf, ownNames, Results, start, namesSoFar, nextFree, label, counted, after}
 use Rattle.naming.specs.Inputs.{w-SourceGraphic, w-SourceAlpha, unsupported, parseIn, lastOf, previous, settled, resolve}
 use Rattle.naming.proofs.Naming.{free-at-most}
-use Rattle.list_read.specs.Records.{Name, Input, SourceGraphic, SourceAlpha, Reference, form1, textFits, inputFits, inputsFit}
-use Rattle.list_read_back.specs.Reading.{inputOf}
+use Rattle.tree.specs.Input.{Name}
+use Rattle.list_read.specs.Records.{form1, textFits, inputFits, inputsFit}
 use Rattle.list_within.specs.Fitting.{OptionFit, OptionsFit}
 
 -- ---- ASCII is UTF-8
@@ -136,7 +136,7 @@ module _ (i : ℕ) (st : Results) (f : StateFit i st) (few : i < 512) where
 -- ---- what an input resolves to
 
 abbrev InputFit : tree.Input → Type 0
-InputFit x = inputFits form1 (inputOf x) ≡ true
+InputFit x = inputFits form1 x ≡ true
 
 choose : (b : Bool) (x y : tree.Input) → InputFit x → InputFit y → InputFit (cond b x y)
 choose true x y h k = h
@@ -167,8 +167,8 @@ unfolding resolve
 resolve-fit ns h none k = previous-fit ns h
 resolve-fit ns h (some t) k = settled-fit ns (parseIn t) h (parse-fit t k)
 
-pub inputs-fit : (ns : List Name) → NamesFit ns → (os : List (Option Name)) → OptionsFit os → inputsFit form1 (map inputOf (map (resolve ns) os)) ≡ true
+pub inputs-fit : (ns : List Name) → NamesFit ns → (os : List (Option Name)) → OptionsFit os → inputsFit form1 (map (resolve ns) os) ≡ true
 unfolding inputsFit
 inputs-fit ns h [] k = refl
 inputs-fit ns h (o ∷ os) k =
-    both-true (inputFits form1 (inputOf (resolve ns o))) (inputsFit form1 (map inputOf (map (resolve ns) os))) (resolve-fit ns h o (k .0)) (inputs-fit ns h os (k .1))
+    both-true (inputFits form1 (resolve ns o)) (inputsFit form1 (map (resolve ns) os)) (resolve-fit ns h o (k .0)) (inputs-fit ns h os (k .1))

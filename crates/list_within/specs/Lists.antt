@@ -3,7 +3,7 @@ use Prim.Native.Nat.{_≤_}
 use mathlib.Core.List.{List}
 use lib.ListN.{length}
 use Rattle.tree.specs.Kinds.{Primitive}
-use Rattle.fe_color.specs.Ranges.{Each}
+use Rattle.num.specs.Numbers.{Each}
 use Rattle.ranges.specs.Numbers.{listNumbers}
 use Rattle.list_read_back.specs.Reading.{AllWithin}
 use Rattle.list_read_back.specs.Claim.{Fits}

@@ -1,74 +1,67 @@
 -- Every kind that `elements` makes of a node has no NaN and its numbers in range, given a sound scale and the node's flood colour and opacity; and
 -- resolving its inputs leaves its numbers as they are. Each line joins the theorems of the kind's own crate. Assumes nothing.
-use Prim.Native.Nat.{ℕ, suc}
 use mathlib.Core.Path.{_≡_, sym}
-use mathlib.Core.Bool.{Bool, true, false, cond, true≢false}
-use mathlib.Core.List.{List, [], _∷_, _++_}
+use mathlib.Core.Bool.{true, false, true≢false}
+use mathlib.Core.List.{List, [], _∷_}
 use mathlib.Core.Option.{Option, none, some}
-use lib.Dec.{T, leb, eqb}
-use lib.ListN.{getD}
+use lib.Dec.{T, leb}
 use lib.Ieee.{Float, nan, inf, fin, lt}
-use lib.Ieee.Scale.{finite}
 use Rattle.names.specs.Ids.{AId·FloodOpacity}
-use Rattle.num.specs.Narrowed.{plusZero}
+use Rattle.num.specs.Constants.{plusZero, one}
 use Rattle.num.specs.Sign.{opacityIn}
 use Rattle.num.proofs.Laws.{finite-num, plus}
 use Rattle.geom.specs.Geometry as geometry
 use Rattle.svgtree.specs.Values.{Node}
 use Rattle.tree.specs.Kinds.{Kind, Blend, ColorMatrix, ComponentTransfer, Composite, ConvolveMatrix, DiffuseLighting, DisplacementMap, DropShadow, Flood, GaussianBlur, Image, Merge, Morphology, Offset, SpecularLighting, Tile, Turbulence, ConvolveMatrixFields, mapKind}
 use Rattle.child.specs.Means.{inOf}
-use Rattle.units.specs.declared.Frame.{Frame}
+use Rattle.region.specs.declared.Frame.{Frame}
 use Rattle.subregion.specs.Subregions.{scaleOf}
 use Rattle.subregion.proofs.Numbers.{Positive}
-use Rattle.fe.specs.Attributes.{one, numberOr}
-use Rattle.fe_blur.specs.Deviations.{gaussianBlurOf}
-use Rattle.fe_blur.specs.Floods.{floodColor, floodOf, transparentBlack}
-use Rattle.fe_blur.specs.Offsets.{offsetFieldsOf, dropShadowOf}
-use Rattle.fe_blur.proofs.Numbers.{positive-num}
-use Rattle.fe_blur.proofs.Opacity.{opacity-num}
-use Rattle.fe_blur.proofs.Ranges.{gaussian-blur-range, flood-range, offset-range, drop-shadow-range, transparent-black-range}
+use Rattle.fe.specs.Attributes.{numberOr}
+use Rattle.fe_blur.specs.GaussianBlur.{gaussianBlurOf}
+use Rattle.fe_flood.specs.Flood.{floodColor, floodOf, transparentBlack}
+use Rattle.fe_blur.specs.Offset.{offsetFieldsOf}
+use Rattle.fe_blur.specs.DropShadow.{dropShadowOf}
+use Rattle.fe.proofs.Numbers.{positive-num}
+use Rattle.fe_flood.proofs.Opacity.{opacity-num}
+use Rattle.fe_blur.proofs.Ranges.{gaussian-blur-range, offset-range, drop-shadow-range}
+use Rattle.fe_flood.proofs.Ranges.{flood-range, transparent-black-range}
 use Rattle.fe_color.specs.ColorMatrix.{colorMatrixKindOf}
 use Rattle.fe_color.specs.ComponentTransfer.{componentTransferOf}
-use Rattle.fe_color.specs.Composite.{operatorOf}
-use Rattle.fe_color.specs.Ranges.{IsNumber, Each, colorMatrixNumbers, componentTransferNumbers, operatorNumbers}
-use Rattle.fe_color.proofs.Finite.{each-num, color-matrix-finite, color-matrix-range, component-transfer-finite, operator-finite}
-use Rattle.fe_kernel.specs.Convolution.{convolveMatrixOf}
+use Rattle.fe_color.specs.Composite.{compositeOperatorOf}
+use Rattle.num.specs.Numbers.{IsNumber, Each}
+use Rattle.fe_color.specs.Ranges.{colorMatrixNumbers, componentTransferNumbers, operatorNumbers}
+use Rattle.num.proofs.Each.{each-num, each-append, _and_}
+use Rattle.fe_color.proofs.Numbers.{color-matrix-finite, color-matrix-range, component-transfer-finite, operator-finite}
+use Rattle.fe_kernel.specs.ConvolveMatrix.{convolveMatrixOf}
 use Rattle.fe_kernel.specs.Ranges.{ConvolveMatrixOk}
 use Rattle.fe_kernel.proofs.Ranges.{convolve-matrix-ok}
-use Rattle.fe_light.specs.declared.MaybeDiffuseLighting.{MaybeDiffuseLighting}
-use Rattle.fe_light.specs.declared.MaybeDiffuseLighting.the-variants as diffuse
-use Rattle.fe_light.specs.declared.MaybeSpecularLighting.{MaybeSpecularLighting}
-use Rattle.fe_light.specs.declared.MaybeSpecularLighting.the-variants as specular
-use Rattle.fe_light.specs.Lighting.{diffuseLightingOf, specularLightingOf}
-use Rattle.fe_light.specs.Ranges.{AllFinite, diffuseNumbers, specularNumbers, DiffuseOk, SpecularOk}
+use Rattle.fe_light.specs.declared.diffuse_lighting.MaybeDiffuseLighting.{MaybeDiffuseLighting}
+use Rattle.fe_light.specs.declared.diffuse_lighting.MaybeDiffuseLighting.the-variants as diffuse
+use Rattle.fe_light.specs.declared.specular_lighting.MaybeSpecularLighting.{MaybeSpecularLighting}
+use Rattle.fe_light.specs.declared.specular_lighting.MaybeSpecularLighting.the-variants as specular
+use Rattle.fe_light.specs.DiffuseLighting.{diffuseLightingOf}
+use Rattle.fe_light.specs.SpecularLighting.{specularLightingOf}
+use Rattle.fe_light.specs.Ranges.{diffuseNumbers, specularNumbers, DiffuseOk, SpecularOk}
 use Rattle.fe_light.proofs.Ranges.{diffuse-ok, specular-ok}
-use Rattle.fe_shape.specs.declared.MaybeMorphology.{MaybeMorphology}
-use Rattle.fe_shape.specs.declared.MaybeMorphology.the-variants as morphology
-use Rattle.fe_shape.specs.declared.MaybeDisplacementMap.{MaybeDisplacementMap}
-use Rattle.fe_shape.specs.declared.MaybeDisplacementMap.the-variants as displacement
-use Rattle.fe_shape.specs.declared.MaybeTurbulence.{MaybeTurbulence}
-use Rattle.fe_shape.specs.declared.MaybeTurbulence.the-variants as turbulence
-use Rattle.fe_shape.specs.Morphologies.{morphologyOf}
-use Rattle.fe_shape.specs.Displacements.{displacementMapOf}
-use Rattle.fe_shape.specs.Turbulences.{turbulenceOf}
-use Rattle.fe_shape.specs.Ranges.{MorphologyOk, DisplacementMapOk, TurbulenceOk}
-use Rattle.fe_shape.proofs.Ranges.{morphology-ok, displacement-map-ok, turbulence-ok}
-use Rattle.chain.specs.Elements.{Made, made, unsupported, six, seven, Tagged, _gives_, byTag, elements, kindOf, convolveMade, diffuseMade, specularMade, morphologyMade, displacementMade, turbulenceMade}
+use Rattle.fe_morphology.specs.declared.MaybeMorphology.{MaybeMorphology}
+use Rattle.fe_morphology.specs.declared.MaybeMorphology.the-variants as morphology
+use Rattle.fe_displacement_map.specs.declared.MaybeDisplacementMap.{MaybeDisplacementMap}
+use Rattle.fe_displacement_map.specs.declared.MaybeDisplacementMap.the-variants as displacement
+use Rattle.fe_turbulence.specs.declared.MaybeTurbulence.{MaybeTurbulence}
+use Rattle.fe_turbulence.specs.declared.MaybeTurbulence.the-variants as turbulence
+use Rattle.fe_morphology.specs.Morphology.{morphologyOf}
+use Rattle.fe_displacement_map.specs.DisplacementMap.{displacementMapOf}
+use Rattle.fe_turbulence.specs.Turbulence.{turbulenceOf}
+use Rattle.fe_morphology.specs.Ranges.{MorphologyOk}
+use Rattle.fe_displacement_map.specs.Ranges.{DisplacementMapOk}
+use Rattle.fe_turbulence.specs.Ranges.{TurbulenceOk}
+use Rattle.fe_morphology.proofs.Ranges.{morphology-ok}
+use Rattle.fe_displacement_map.proofs.Ranges.{displacement-map-ok}
+use Rattle.fe_turbulence.proofs.Ranges.{turbulence-ok}
+use Rattle.chain.specs.Elements.{Made, made, elements, kindOf, convolveMade, diffuseMade, specularMade, morphologyMade, displacementMade, turbulenceMade}
 use Rattle.ranges.specs.Numbers.{kindNumbers, InRange}
-
--- ---- lists of numbers
-
-pub each-append : (P : Float → Type 0) (xs ys : List Float) → Each P xs → Each P ys → Each P (xs ++ ys)
-each-append P [] ys h k = k
-each-append P (x ∷ xs) ys h k = (h .0, each-append P xs ys (h .1) k)
-
-all-num : (xs : List Float) → AllFinite xs → Each IsNumber xs
-all-num [] h = tt
-all-num (x ∷ xs) h = (finite-num x (h .0), all-num xs (h .1))
-
-at-num : (xs : List Float) → ((k : ℕ) → T (finite (getD xs k plusZero))) → Each IsNumber xs
-at-num [] h = tt
-at-num (x ∷ xs) h = (finite-num x (h 0), at-num xs (λ (k : ℕ). h (suc k)))
+use Rattle.ranges.proofs.Children.{MadeAll, AnyRefusal, All, by-tag}
 
 -- ---- a kind
 
@@ -100,10 +93,7 @@ map-sound f (Turbulence v) h = record { numbers = h .numbers; ranges = h .ranges
 -- ---- what an element gives; a refusal has no numbers
 
 abbrev pub MadeSound : Made → Type 0
-MadeSound (made k) = KindSound k
-MadeSound unsupported = Unit {0}
-MadeSound six = Unit {0}
-MadeSound seven = Unit {0}
+MadeSound m = MadeAll KindSound AnyRefusal m
 
 flood-sound : MadeSound (made (Flood transparentBlack))
 flood-sound = record { numbers = (opacity-num plusZero (transparent-black-range .opacity), tt); ranges = transparent-black-range }
@@ -112,30 +102,30 @@ convolve-sound : (n : Node) (o : Option ConvolveMatrixFields) → ConvolveMatrix
 convolve-sound n none h = flood-sound
 convolve-sound n (some v) h =
     record {
-      numbers = each-append IsNumber (v .matrix .numbers) (v .divisor ∷ v .bias ∷ []) (at-num (v .matrix .numbers) (h .matrix .numbers)) (h .divisor-number, (finite-num (v .bias) (h .bias), tt));
+      numbers = each-append IsNumber (v .matrix .numbers) (v .divisor ∷ v .bias ∷ []) (each-num (v .matrix .numbers) (h .matrix .numbers)) (h .divisor-number, (finite-num (v .bias) (h .bias), tt));
       ranges = h;
     }
 
 diffuse-sound : (n : Node) (m : MaybeDiffuseLighting) → DiffuseOk m → MadeSound (diffuseMade n m)
-diffuse-sound n (diffuse.Is v) h = record { numbers = all-num (diffuseNumbers v) (h .numbers); ranges = h }
+diffuse-sound n (diffuse.Is v) h = record { numbers = each-num (diffuseNumbers v) (h .numbers); ranges = h }
 diffuse-sound n diffuse.No h = flood-sound
 
 specular-sound : (n : Node) (m : MaybeSpecularLighting) → SpecularOk m → MadeSound (specularMade n m)
-specular-sound n (specular.Is v) h = record { numbers = all-num (specularNumbers v) (h .numbers); ranges = h }
+specular-sound n (specular.Is v) h = record { numbers = each-num (specularNumbers v) (h .numbers); ranges = h }
 specular-sound n specular.No h = flood-sound
 
 morphology-sound : (n : Node) (m : MaybeMorphology) → MorphologyOk m → MadeSound (morphologyMade n m)
 morphology-sound n (morphology.Is v) h = record { numbers = (positive-num (v .«radius_x») (h .radius-x), (positive-num (v .«radius_y») (h .radius-y), tt)); ranges = h }
-morphology-sound n morphology.RadiusNotFinite h = tt
+morphology-sound n (morphology.Refused why) h = tt
 
 displacement-sound : (n : Node) (m : MaybeDisplacementMap) → DisplacementMapOk m → MadeSound (displacementMade n m)
 displacement-sound n (displacement.Is v) h = record { numbers = (h .scale, tt); ranges = tt }
-displacement-sound n displacement.BoxNotFinite h = tt
+displacement-sound n (displacement.Refused why) h = tt
 
 turbulence-sound : (m : MaybeTurbulence) → TurbulenceOk m → MadeSound (turbulenceMade m)
 turbulence-sound (turbulence.Is v) h =
     record { numbers = (positive-num (v .«base_frequency_x») (h .frequency-x), (positive-num (v .«base_frequency_y») (h .frequency-y), tt)); ranges = h }
-turbulence-sound turbulence.FrequencyNotFinite h = tt
+turbulence-sound (turbulence.Refused why) h = tt
 
 -- ---- the elements, one line a tag
 
@@ -151,25 +141,6 @@ above-plus (inf false) e = tt
 above-plus (inf true) e = absurd (true≢false (sym e))
 above-plus (fin false m k) e = tt
 above-plus (fin true m k) e = absurd (true≢false (sym e))
-
--- what holds of everything that the tags of a table give, and of a tag without a primitive, holds of what any tag gives
-module _ (P : Made → Type 0) (other : P unsupported) where
-  abbrev pub All : List Tagged → Type 0
-  All [] = Unit {0}
-  All ((t gives m) ∷ rest) = P m × All rest
-
-  either : (b : Bool) (x y : Made) → P x → P y → P (cond b x y)
-  either true x y h k = h
-  either false x y h k = k
-
-  pub by-tag : (xs : List Tagged) (tag : ℕ) → All xs → P (byTag xs tag)
-  unfolding byTag
-  by-tag [] tag h = other
-  by-tag ((t gives m) ∷ rest) tag h = either (eqb tag t) m (byTag rest tag) (h .0) (by-tag rest tag (h .1))
-
-infixr 5 _and_
-pub _and_ : {A B : Type 0} → A → B → A × B
-a and b = (a, b)
 
 module _ (f : Frame) (n : Node) (children : List Node) (p : Positive (scaleOf f)) (ok : FloodOk n) where
   drop-shadow-sound : MadeSound (made (DropShadow (inOf n) (dropShadowOf n (scaleOf f))))
@@ -207,7 +178,7 @@ module _ (f : Frame) (n : Node) (children : List Node) (p : Positive (scaleOf f)
       and offset-sound
       and record { numbers = tt; ranges = tt }
       and flood-element-sound
-      and record { numbers = each-num (operatorNumbers (operatorOf n)) (operator-finite n); ranges = tt }
+      and record { numbers = each-num (operatorNumbers (compositeOperatorOf n)) (operator-finite n); ranges = tt }
       and record { numbers = tt; ranges = tt }
       and record { numbers = tt; ranges = tt }
       and record { numbers = each-num (componentTransferNumbers (componentTransferOf children)) (component-transfer-finite children); ranges = tt }

@@ -1,3 +1,4 @@
+pub mod Children
 pub mod KindNumbers
 pub mod Sound
 pub mod NeverSeven

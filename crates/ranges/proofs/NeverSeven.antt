@@ -1,52 +1,58 @@
 -- No child is refused with 7: a number that is not finite is read as +0, since refusal 3 has turned its sheet away, so a base frequency whose sign is
 -- clear is finite and not below zero. Assumes nothing.
 use Prim.Native.Nat.{ℕ}
-use mathlib.Core.Path.{_≡_, subst}
+use native.Mathlib.Omega.{arith}
+use mathlib.Core.Path.{_≡_, refl, subst}
 use mathlib.Core.Bool.{Bool, true, false, not, cond, _&&_}
-use mathlib.Core.List.{List, [], _∷_}
+use mathlib.Core.List.{List}
 use mathlib.Core.Option.{Option, none, some}
-use lib.Dec.{T, eqb}
-use lib.Ieee.{Float, nan, inf, fin}
+use lib.Dec.{T}
+use lib.Ieee.{Float, fin}
 use lib.Ieee.Scale.{finite}
 use lib.Ieee.Fits.{and-l, and-r, and-i}
+use Rattle.answer.specs.declared.Refusal.{Refusal}
+use Rattle.answer.specs.declared.Refusal.the-variants.{Unrepresentable, BadFrequency}
 use Rattle.names.specs.Ids.{AId·BaseFrequency}
-use Rattle.num.specs.Narrowed.{plusZero}
+use Rattle.num.specs.Constants.{plusZero}
 use Rattle.num.specs.Sign.{positive, signNegative}
 use Rattle.num.proofs.Laws.{plus}
 use Rattle.num.proofs.Finite.{zero-finite}
-use Rattle.geom.specs.declared.Rect.{Rect}
+use Rattle.geom.specs.declared.Size.{Size}
 use Rattle.svgtree.specs.Values.{Node}
-use Rattle.svgtree.specs.Readers.{lookup, numbersOf, childNodes}
-use Rattle.tree.specs.Kinds.{ConvolveMatrixFields}
-use Rattle.units.specs.declared.Frame.{Frame}
-use Rattle.subregion.specs.declared.Subregion.{Subregion}
-use Rattle.subregion.specs.declared.Subregion.the-variants as region
-use Rattle.subregion.specs.Subregions.{regionOf, scaleOf}
-use Rattle.fe.proofs.Numbers.{ListFinite, list-finite}
-use Rattle.fe_shape.specs.Pairs.{both, pairIn, signsClear, ifPositive}
-use Rattle.fe_shape.specs.Morphologies.{morphologyOf}
-use Rattle.fe_shape.specs.Displacements.{displacementMapOf}
-use Rattle.fe_shape.specs.Turbulences.{frequencyOf, turbulenceWith}
-use Rattle.fe_shape.specs.declared.Pair.{Pair}
-use Rattle.fe_shape.specs.declared.MaybePair.{MaybePair}
-use Rattle.fe_shape.specs.declared.MaybePair.the-variants as maybe-pair
-use Rattle.fe_shape.specs.declared.MaybeMorphology.{MaybeMorphology}
-use Rattle.fe_shape.specs.declared.MaybeMorphology.the-variants as morphology
-use Rattle.fe_shape.specs.declared.MaybeDisplacementMap.{MaybeDisplacementMap}
-use Rattle.fe_shape.specs.declared.MaybeDisplacementMap.the-variants as displacement
-use Rattle.fe_shape.specs.declared.MaybeTurbulence.{MaybeTurbulence}
-use Rattle.fe_shape.specs.declared.MaybeTurbulence.the-variants as turbulence
-use Rattle.fe_shape.proofs.Numbers.{plus-positive}
-use Rattle.fe_light.specs.declared.MaybeDiffuseLighting.{MaybeDiffuseLighting}
-use Rattle.fe_light.specs.declared.MaybeDiffuseLighting.the-variants as diffuse
-use Rattle.fe_light.specs.declared.MaybeSpecularLighting.{MaybeSpecularLighting}
-use Rattle.fe_light.specs.declared.MaybeSpecularLighting.the-variants as specular
-use Rattle.fe_light.specs.Lighting.{diffuseLightingOf, specularLightingOf}
-use Rattle.fe_kernel.specs.Convolution.{convolveMatrixOf}
-use Rattle.chain.specs.Elements.{Made, made, unsupported, six, seven, elements, kindOf, convolveMade, diffuseMade, specularMade, morphologyMade, displacementMade, turbulenceMade}
+use Rattle.svgtree.specs.Readers.{numbersOf, childNodes}
+use Rattle.tree.specs.Input.{Name}
+use Rattle.tree.specs.Kinds.{Kind, ConvolveMatrixFields}
+use Rattle.region.specs.declared.Frame.{Frame}
+use Rattle.subregion.specs.Subregions.{scaleOf}
+use Rattle.subregion.proofs.Numbers.{subregion-refusal}
+use Rattle.fe.proofs.Numbers.{ListHolds, numbers-finite, plus-positive}
+use Rattle.num.specs.Numbers.{IsFinite}
+use Rattle.fe.specs.Pairs.{both, pairIn, signsClear, ifPositive}
+use Rattle.fe_morphology.specs.Morphology.{morphologyOf}
+use Rattle.fe_displacement_map.specs.DisplacementMap.{displacementMapOf}
+use Rattle.fe_turbulence.specs.Turbulence.{frequencyOf, turbulenceWith}
+use Rattle.fe.specs.declared.pair.Pair.{Pair}
+use Rattle.fe.specs.declared.pair.MaybePair.{MaybePair}
+use Rattle.fe.specs.declared.pair.MaybePair.the-variants as maybe-pair
+use Rattle.fe_morphology.specs.declared.MaybeMorphology.{MaybeMorphology}
+use Rattle.fe_morphology.specs.declared.MaybeMorphology.the-variants as morphology
+use Rattle.fe_displacement_map.specs.declared.MaybeDisplacementMap.{MaybeDisplacementMap}
+use Rattle.fe_displacement_map.specs.declared.MaybeDisplacementMap.the-variants as displacement
+use Rattle.fe_morphology.proofs.Refusals.{morphology-refusal}
+use Rattle.fe_displacement_map.proofs.Refusals.{displacement-refusal}
+use Rattle.fe_light.specs.declared.diffuse_lighting.MaybeDiffuseLighting.{MaybeDiffuseLighting}
+use Rattle.fe_light.specs.declared.diffuse_lighting.MaybeDiffuseLighting.the-variants as diffuse
+use Rattle.fe_light.specs.declared.specular_lighting.MaybeSpecularLighting.{MaybeSpecularLighting}
+use Rattle.fe_light.specs.declared.specular_lighting.MaybeSpecularLighting.the-variants as specular
+use Rattle.fe_light.specs.DiffuseLighting.{diffuseLightingOf}
+use Rattle.fe_light.specs.SpecularLighting.{specularLightingOf}
+use Rattle.fe_kernel.specs.ConvolveMatrix.{convolveMatrixOf}
+use Rattle.fe.proofs.Pairs.{pair-holds}
+use Rattle.child.specs.Child.{Child}
+use Rattle.chain.specs.Elements.{Made, elements, kindOf, convolveMade, diffuseMade, specularMade, morphologyMade, displacementMade, turbulenceMade}
 use Rattle.chain.specs.Chain as chain
-use Rattle.chain.specs.Chain.{Step, pass, end, count, kindStep, regionStep, stepOf, Chain, refusedSix, refusedSeven, kept, put, follow}
-use Rattle.ranges.proofs.KindNumbers.{by-tag, _and_}
+use Rattle.ranges.proofs.Children.{MadeAll, by-tag, ChainAll, chain-all}
+use Rattle.num.proofs.Each.{_and_}
 
 -- ---- base frequencies
 
@@ -56,13 +62,6 @@ Given maybe-pair.No = ⊥
 
 clear-plus : (x : Float) → T (finite x) → T (not (signNegative x)) → T (plus x)
 clear-plus (fin s m e) f h = h
-
-pair-finite : (xs : List Float) → ListFinite (some xs) → T (finite (pairIn xs .x)) × T (finite (pairIn xs .y))
-unfolding pairIn
-pair-finite [] h = (zero-finite, zero-finite)
-pair-finite (x ∷ []) h = (h 0, h 0)
-pair-finite (x ∷ y ∷ []) h = (h 0, h 1)
-pair-finite (x ∷ y ∷ z ∷ rest) h = (zero-finite, zero-finite)
 
 positive-given : (p : Pair) → T (positive (p .x)) → T (positive (p .y)) → Given (ifPositive p)
 unfolding ifPositive
@@ -78,102 +77,72 @@ clear-given p fx fy h =
     let y = not (signNegative (p .y)) in
     positive-given p (plus-positive (p .x) fx (clear-plus (p .x) fx (and-l x y h))) (plus-positive (p .y) fy (clear-plus (p .y) fy (and-r x y h)))
 
-frequency-given : (o : Option (List Float)) → ListFinite o → Given (frequencyOf o)
+frequency-given : (o : Option (List Float)) → ListHolds IsFinite o → Given (frequencyOf o)
 frequency-given none h = tt
 frequency-given (some xs) h = go (signsClear (pairIn xs)) (λ c. c)
   where
     go : (b : Bool) → (T b → T (signsClear (pairIn xs))) → Given (cond b (ifPositive (pairIn xs)) (maybe-pair.Is (both plusZero plusZero)))
-    go true f = clear-given (pairIn xs) (pair-finite xs h .0) (pair-finite xs h .1) (f tt)
+    go true f = clear-given (pairIn xs) (pair-holds IsFinite zero-finite xs h .0) (pair-holds IsFinite zero-finite xs h .1) (f tt)
     go false f = tt
 
 -- ---- elements
 
-abbrev NotSeven : Made → Type 0
-NotSeven (made k) = Unit {0}
-NotSeven unsupported = Unit {0}
-NotSeven six = Unit {0}
-NotSeven seven = ⊥
+abbrev NotSeven : Refusal → Type 0
+NotSeven r = r ≡ BadFrequency → ⊥
 
-turbulence-made : (n : Node) (m : MaybePair) → Given m → NotSeven (turbulenceMade (turbulenceWith n m))
+abbrev AnyKind : Kind (Option Name) → Type 0
+AnyKind k = Unit {0}
+
+abbrev MadeGoes : Made → Type 0
+MadeGoes m = MadeAll AnyKind NotSeven m
+
+six-goes : {why : Refusal} → why ≡ Unrepresentable → NotSeven why
+six-goes e q = let z : _≡_ {A = ℕ} 0 1 = cc in omega arith
+
+turbulence-made : (n : Node) (m : MaybePair) → Given m → MadeGoes (turbulenceMade (turbulenceWith n m))
 turbulence-made n (maybe-pair.Is p) h = tt
 
-convolve-made : (n : Node) (o : Option ConvolveMatrixFields) → NotSeven (convolveMade n o)
+convolve-made : (n : Node) (o : Option ConvolveMatrixFields) → MadeGoes (convolveMade n o)
 convolve-made n none = tt
 convolve-made n (some v) = tt
 
-morphology-made : (n : Node) (m : MaybeMorphology) → NotSeven (morphologyMade n m)
-morphology-made n (morphology.Is v) = tt
-morphology-made n morphology.RadiusNotFinite = tt
+morphology-made : (n : Node) (z : Size) (m : MaybeMorphology) → morphologyOf n z ≡ m → MadeGoes (morphologyMade n m)
+morphology-made n z (morphology.Is v) e = tt
+morphology-made n z (morphology.Refused why) e = six-goes (morphology-refusal n z why e)
 
-displacement-made : (n : Node) (m : MaybeDisplacementMap) → NotSeven (displacementMade n m)
-displacement-made n (displacement.Is v) = tt
-displacement-made n displacement.BoxNotFinite = tt
+displacement-made : (n : Node) (z : Size) (m : MaybeDisplacementMap) → displacementMapOf n z ≡ m → MadeGoes (displacementMade n m)
+displacement-made n z (displacement.Is v) e = tt
+displacement-made n z (displacement.Refused why) e = six-goes (displacement-refusal n z why e)
 
-diffuse-made : (n : Node) (m : MaybeDiffuseLighting) → NotSeven (diffuseMade n m)
+diffuse-made : (n : Node) (m : MaybeDiffuseLighting) → MadeGoes (diffuseMade n m)
 diffuse-made n (diffuse.Is v) = tt
 diffuse-made n diffuse.No = tt
 
-specular-made : (n : Node) (m : MaybeSpecularLighting) → NotSeven (specularMade n m)
+specular-made : (n : Node) (m : MaybeSpecularLighting) → MadeGoes (specularMade n m)
 specular-made n (specular.Is v) = tt
 specular-made n specular.No = tt
 
-kind-made : (f : Frame) (n : Node) (children : List Node) → NotSeven (kindOf f n children)
+kind-made : (f : Frame) (n : Node) (children : List Node) → MadeGoes (kindOf f n children)
 unfolding kindOf
 kind-made f n children =
-    by-tag NotSeven tt (elements f n children) (n .tag)
+    by-tag MadeGoes tt (elements f n children) (n .tag)
     (tt and tt and tt and tt and tt and tt and tt and tt and tt and tt
     and convolve-made n (convolveMatrixOf n)
-    and morphology-made n (morphologyOf n (scaleOf f))
-    and displacement-made n (displacementMapOf n (scaleOf f))
-    and turbulence-made n (frequencyOf (numbersOf n AId·BaseFrequency)) (frequency-given (numbersOf n AId·BaseFrequency) (list-finite (lookup AId·BaseFrequency (n .attributes))))
+    and morphology-made n (scaleOf f) (morphologyOf n (scaleOf f)) refl
+    and displacement-made n (scaleOf f) (displacementMapOf n (scaleOf f)) refl
+    and turbulence-made n (frequencyOf (numbersOf n AId·BaseFrequency)) (frequency-given (numbersOf n AId·BaseFrequency) (numbers-finite n AId·BaseFrequency))
     and diffuse-made n (diffuseLightingOf n children)
     and specular-made n (specularLightingOf n children)
     and tt)
 
 -- ---- the chain
 
-abbrev StepGoes : Step → Type 0
-StepGoes pass = Unit {0}
-StepGoes end = Unit {0}
-StepGoes chain.six = Unit {0}
-StepGoes chain.seven = ⊥
-StepGoes (count c) = Unit {0}
-
-kind-step : (n : Node) (r : Rect) (m : Made) → NotSeven m → StepGoes (kindStep n r m)
-kind-step n r (made k) h = tt
-kind-step n r unsupported h = tt
-kind-step n r six h = tt
-
-region-step : (f : Frame) (n : Node) (children : List Node) (m : Subregion) → StepGoes (regionStep f n children m)
-region-step f n children (region.Is r) = kind-step n r (kindOf f n children) (kind-made f n children)
-region-step f n children region.Ends = tt
-region-step f n children region.Unplaced = tt
-
-step-goes : (f : Frame) (n : Node) (rest : List Node) → StepGoes (stepOf f n rest)
-unfolding stepOf
-step-goes f n rest = either (eqb (n .depth) 1) _ (either (eqb (n .tag) 0) _ (region-step f n (childNodes rest) (regionOf f n)))
-  where
-    either : (b : Bool) (x : Step) → StepGoes x → StepGoes (cond b pass x)
-    either true x h = tt
-    either false x h = h
-
-abbrev ChainGoes : Chain → Type 0
-ChainGoes refusedSix = Unit {0}
-ChainGoes refusedSeven = ⊥
-ChainGoes (kept cs) = Unit {0}
-
-follow-goes : (step : Step) (rest : Chain) → StepGoes step → ChainGoes rest → ChainGoes (follow step rest)
-follow-goes pass rest h k = k
-follow-goes end rest h k = tt
-follow-goes chain.six rest h k = tt
-follow-goes (count c) refusedSix h k = tt
-follow-goes (count c) (kept cs) h k = tt
-
-chain-goes : (f : Frame) (ns : List Node) → ChainGoes (chain.chain f ns)
-unfolding chain.chain
-chain-goes f [] = tt
-chain-goes f (n ∷ rest) = follow-goes (stepOf f n rest) (chain.chain f rest) (step-goes f n rest) (chain-goes f rest)
+abbrev AnyChild : Child → Type 0
+AnyChild c = Unit {0}
 
 -- whatever the frame and the nodes
-pub never-seven : (f : Frame) (ns : List Node) → chain.chain f ns ≡ refusedSeven → ⊥
-never-seven f ns e = subst ChainGoes e (chain-goes f ns)
+pub never-seven : (f : Frame) (ns : List Node) → chain.chain f ns ≡ chain.refused BadFrequency → ⊥
+never-seven f ns e =
+    subst (ChainAll AnyChild NotSeven) e
+    (chain-all AnyChild NotSeven f (λ (l : List Node). Unit {0}) AnyKind (λ n why e. six-goes (subregion-refusal f n why e)) (λ n rest h. kind-made f n (childNodes rest)) (λ n rest h r e k s. tt) (λ n rest h. tt) ns tt)
+    refl

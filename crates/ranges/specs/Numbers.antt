@@ -4,11 +4,14 @@ use lib.Ieee.{Float}
 use Rattle.geom.specs.Geometry.{widthOf, heightOf}
 use Rattle.geom.specs.declared.Rect.{Rect}
 use Rattle.tree.specs.Kinds.{Kind, Blend, ColorMatrix, ComponentTransfer, Composite, ConvolveMatrix, DiffuseLighting, DisplacementMap, DropShadow, Flood, GaussianBlur, Image, Merge, Morphology, Offset, SpecularLighting, Tile, Turbulence, Primitive}
-use Rattle.fe_blur.specs.Ranges.{GaussianBlurRange, FloodRange, DropShadowRange}
-use Rattle.fe_color.specs.Ranges.{Each, IsNumber, colorMatrixNumbers, componentTransferNumbers, operatorNumbers, ColorMatrixRange}
+use Rattle.fe_blur.specs.Ranges.{GaussianBlurRange, DropShadowRange}
+use Rattle.fe_flood.specs.Ranges.{FloodRange}
+use Rattle.num.specs.Numbers.{Each, IsNumber}
+use Rattle.fe_color.specs.Ranges.{colorMatrixNumbers, componentTransferNumbers, operatorNumbers, ColorMatrixRange}
 use Rattle.fe_kernel.specs.Ranges.{ConvolveMatrixRange}
 use Rattle.fe_light.specs.Ranges.{diffuseNumbers, specularNumbers, DiffuseRange, SpecularRange}
-use Rattle.fe_shape.specs.Ranges.{MorphologyRange, TurbulenceRange}
+use Rattle.fe_morphology.specs.Ranges.{MorphologyRange}
+use Rattle.fe_turbulence.specs.Ranges.{TurbulenceRange}
 
 -- ---- "A number in the list is any f32 in it": in the order in which they are written
 

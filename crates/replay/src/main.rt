@@ -4,6 +4,7 @@
 // the input's length, the output's length, the number wanted, the length wanted; then the input, then the bytes wanted. Narrowing has an
 // f64's bits as its input, and the f32's as its number.
 ghost use Prim.Native.Nat.{_≤_, _<_};
+use answer::Answer;
 use bits::byte;
 use bits::get32;
 use bits::get64;
@@ -11,7 +12,6 @@ use bits::put_u8;
 use bits::u32_to_u64;
 use bits::wide32;
 use libc::STDOUT_FILENO;
-use zatongae::Answer;
 use zatongae::zatongae_convert;
 use zatongae::zatongae_convert_function;
 use zatongae::zatongae_narrow;

@@ -3,7 +3,7 @@ use mathlib.Core.Path.{ap}
 use lib.Ieee.{Float}
 use Rattle.num.specs.Narrowed.{doubleOf}
 use Rattle.tree.specs.declared.TransferFunction.the-variants.{Linear}
-use Rattle.fe_color.specs.Numbers.{zero}
+use Rattle.num.specs.Constants.{plusZero as zero}
 use borrow.Author.Needs.{needs}
 use Rattle.functions.proofs.convert_brightness_function.Statement.{statement}
 use Rattle.functions.proofs.convert_brightness_function.Tie as tie

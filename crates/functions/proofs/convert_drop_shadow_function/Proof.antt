@@ -4,7 +4,11 @@ use Rattle.functions.proofs.convert_drop_shadow_function.Statement.{sta
 use Rattle.functions.proofs.convert_drop_shadow_function.Tie as tie
 
 returns : tie.Need-returns
-returns c = rw (c .before .before .before .before .split-alpha .ensures, c .before .before .before .before .before .shadow-color .ensures, c .before .before .user-length .ensures, c .before .user-length2 .ensures, c .std-deviation .ensures)
+returns c =
+    let at-user-length = c .before .before in
+    let at-split-alpha = at-user-length .before .before in
+    let at-shadow-color = at-split-alpha .before in
+    rw (at-split-alpha .split-alpha .ensures, at-shadow-color .shadow-color .ensures, at-user-length .user-length .ensures, c .before .user-length2 .ensures, c .std-deviation .ensures)
 
 pub convert-drop-shadow-function-spec : {M : Type 1} → statement M
 convert-drop-shadow-function-spec =

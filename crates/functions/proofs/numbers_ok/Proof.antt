@@ -1,26 +1,49 @@
--- Each return is a rule of `numbersOk`, with those before it kept. Assumes nothing.
+-- Each return is a rule of `functionNumbersOk`, with those before it kept. Assumes nothing.
 use mathlib.Core.Path.{sym, _∙_}
 use borrow.Author.Tests.{not-true, not-false}
-use Rattle.functions.specs.Refusals.{numbersOk}
+use Rattle.functions.specs.Refusals.{functionNumbersOk}
 use borrow.Author.Needs.{needs}
 use Rattle.functions.proofs.numbers_ok.Statement.{statement}
 use Rattle.functions.proofs.numbers_ok.Tie as tie
 
 returns : tie.Need-returns
-unfolding numbersOk
+unfolding functionNumbersOk
 returns c = simp (sym (c .before .is-view-box-length-at .ensures) ∙ not-true _ (c .if1 .taken))
 
 returns-2 : tie.Need-returns-2
-unfolding numbersOk
-returns-2 c = simp (sym (c .before .before .before .is-view-box-length-at .ensures) ∙ not-false _ (c .before .before .if1 .left), sym (c .before .is-valid-length-at .ensures) ∙ not-true _ (c .if2 .taken))
+unfolding functionNumbersOk
+returns-2 c =
+    simp (
+      sym (c .before .before .before .is-view-box-length-at .ensures) ∙ not-false _ (c .before .before .if1 .left),
+      sym (c .before .is-valid-length-at .ensures) ∙ not-true _ (c .if2 .taken),
+    )
 
 returns-3 : tie.Need-returns-3
-unfolding numbersOk
-returns-3 c = simp (sym (c .before .before .before .before .before .is-view-box-length-at .ensures) ∙ not-false _ (c .before .before .before .before .if1 .left), sym (c .before .before .before .is-valid-length-at .ensures) ∙ not-false _ (c .before .before .if2 .left), sym (c .before .is-positive-at .ensures) ∙ not-true _ (c .if3 .taken))
+unfolding functionNumbersOk
+returns-3 c =
+    let at-if2 = c .before .before in
+    let at-is-valid-length-at = at-if2 .before in
+    let at-if1 = at-is-valid-length-at .before in
+    let at-is-view-box-length-at = at-if1 .before in
+    simp (
+      sym (at-is-view-box-length-at .is-view-box-length-at .ensures) ∙ not-false _ (at-if1 .if1 .left),
+      sym (at-is-valid-length-at .is-valid-length-at .ensures) ∙ not-false _ (at-if2 .if2 .left),
+      sym (c .before .is-positive-at .ensures) ∙ not-true _ (c .if3 .taken),
+    )
 
 returns-4 : tie.Need-returns-4
-unfolding numbersOk
-returns-4 c = simp (sym (c .before .before .before .before .before .before .is-view-box-length-at .ensures) ∙ not-false _ (c .before .before .before .before .before .if1 .left), sym (c .before .before .before .before .is-valid-length-at .ensures) ∙ not-false _ (c .before .before .before .if2 .left), sym (c .before .before .is-positive-at .ensures) ∙ not-false _ (c .before .if3 .left)) (c .function-numbers-ok .ensures)
+unfolding functionNumbersOk
+returns-4 c =
+    let at-is-positive-at = c .before .before in
+    let at-if2 = at-is-positive-at .before in
+    let at-is-valid-length-at = at-if2 .before in
+    let at-if1 = at-is-valid-length-at .before in
+    let at-is-view-box-length-at = at-if1 .before in
+    simp (
+      sym (at-is-view-box-length-at .is-view-box-length-at .ensures) ∙ not-false _ (at-if1 .if1 .left),
+      sym (at-is-valid-length-at .is-valid-length-at .ensures) ∙ not-false _ (at-if2 .if2 .left),
+      sym (at-is-positive-at .is-positive-at .ensures) ∙ not-false _ (c .before .if3 .left),
+    ) (c .function-numbers-ok .ensures)
 
 pub numbers-ok-spec : {M : Type 1} → statement M
 numbers-ok-spec =

@@ -7,7 +7,10 @@ use Rattle.functions.proofs.put_blur.Tie as tie
 
 returns : tie.Need-returns
 unfolding kindBytes
-returns c = c .before .before .before .before .before .before .put-head .ensures then c .before .before .put-gaussian-blur .ensures
+returns c =
+    let at-put-gaussian-blur = c .before .before in
+    let at-put-head = at-put-gaussian-blur .before .before .before .before in
+    at-put-head .put-head .ensures then at-put-gaussian-blur .put-gaussian-blur .ensures
 
 pub put-blur-spec : {M : Type 1} → statement M
 put-blur-spec =

@@ -7,7 +7,10 @@ use Rattle.functions.proofs.put_color_matrix.Tie as tie
 
 returns : tie.Need-returns
 unfolding kindBytes
-returns c = c .before .before .before .before .before .before .put-head .ensures then c .before .before .put-color-matrix-kind .ensures
+returns c =
+    let at-put-color-matrix-kind = c .before .before in
+    let at-put-head = at-put-color-matrix-kind .before .before .before .before in
+    at-put-head .put-head .ensures then at-put-color-matrix-kind .put-color-matrix-kind .ensures
 
 pub put-color-matrix-spec : {M : Type 1} → statement M
 put-color-matrix-spec =

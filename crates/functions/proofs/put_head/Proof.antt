@@ -7,7 +7,10 @@ use Rattle.functions.proofs.put_head.Tie as tie
 
 returns : tie.Need-returns
 unfolding inputBytes
-returns c = c .before .before .before .before .before .before .put-u8 .ensures then c .before .before .put-u82 .ensures
+returns c =
+    let at-put-u82 = c .before .before in
+    let at-put-u8 = at-put-u82 .before .before .before .before in
+    at-put-u8 .put-u8 .ensures then at-put-u82 .put-u82 .ensures
 
 pub put-head-spec : {M : Type 1} → statement M
 put-head-spec = tie.close (tie.spec (λ c κs. search needs) (λ c κs. search needs) (λ c. search needs) returns)

@@ -9,7 +9,11 @@ use Rattle.functions.proofs.put_matrix.Tie as tie
 
 returns : tie.Need-returns
 unfolding kindBytes colorMatrixKindBytes
-returns c = c .before .before .before .before .before .before .before .before .before .before .before .put-head .ensures then (c .before .before .before .before .before .before .before .put-u8 .ensures then c .before .before .put-values .ensures) counted omega arith
+returns c =
+    let at-put-values = c .before .before in
+    let at-put-u8 = at-put-values .before .before .before .before .before in
+    let at-put-head = at-put-u8 .before .before .before .before in
+    at-put-head .put-head .ensures then (at-put-u8 .put-u8 .ensures then at-put-values .put-values .ensures) counted omega arith
 
 pub put-matrix-spec : {M : Type 1} → statement M
 put-matrix-spec =

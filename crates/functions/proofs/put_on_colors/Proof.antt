@@ -7,7 +7,10 @@ use Rattle.functions.proofs.put_on_colors.Tie as tie
 
 returns : tie.Need-returns
 unfolding kindBytes
-returns c = c .before .before .before .before .before .before .put-head .ensures then c .before .before .put-component-transfer .ensures
+returns c =
+    let at-put-component-transfer = c .before .before in
+    let at-put-head = at-put-component-transfer .before .before .before .before in
+    at-put-head .put-head .ensures then at-put-component-transfer .put-component-transfer .ensures
 
 pub put-on-colors-spec : {M : Type 1} → statement M
 put-on-colors-spec =

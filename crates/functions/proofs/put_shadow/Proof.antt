@@ -7,7 +7,10 @@ use Rattle.functions.proofs.put_shadow.Tie as tie
 
 returns : tie.Need-returns
 unfolding kindBytes
-returns c = c .before .before .before .before .before .before .put-head .ensures then c .before .before .put-drop-shadow .ensures
+returns c =
+    let at-put-drop-shadow = c .before .before in
+    let at-put-head = at-put-drop-shadow .before .before .before .before in
+    at-put-head .put-head .ensures then at-put-drop-shadow .put-drop-shadow .ensures
 
 pub put-shadow-spec : {M : Type 1} → statement M
 put-shadow-spec =

@@ -8,7 +8,10 @@ use Rattle.functions.proofs.put_table.Tie as tie
 
 returns : tie.Need-returns
 unfolding transferFunctionBytes
-returns c = c .before .before .before .before .before .before .before .put-u8 .ensures then c .before .before .put-values .ensures counted omega arith
+returns c =
+    let at-put-values = c .before .before in
+    let at-put-u8 = at-put-values .before .before .before .before .before in
+    at-put-u8 .put-u8 .ensures then at-put-values .put-values .ensures counted omega arith
 
 pub put-table-spec : {M : Type 1} → statement M
 put-table-spec =

@@ -8,7 +8,13 @@ use Rattle.functions.proofs.put_table_on_alpha.Tie as tie
 
 returns : tie.Need-returns
 unfolding kindBytes componentTransferBytes transferFunctionBytes
-returns c = c .before .before .before .before .before .before .before .before .before .before .before .before .before .before .before .before .before .before .put-head .ensures then (c .before .before .before .before .before .before .before .before .before .before .before .before .before .before .put-u8 .ensures then c .before .before .before .before .before .before .before .before .before .before .put-u82 .ensures then c .before .before .before .before .before .before .put-u83 .ensures then c .before .before .put-table .ensures)
+returns c =
+    let at-put-table = c .before .before in
+    let at-put-u83 = at-put-table .before .before .before .before in
+    let at-put-u82 = at-put-u83 .before .before .before .before in
+    let at-put-u8 = at-put-u82 .before .before .before .before in
+    let at-put-head = at-put-u8 .before .before .before .before in
+    at-put-head .put-head .ensures then (at-put-u8 .put-u8 .ensures then at-put-u82 .put-u82 .ensures then at-put-u83 .put-u83 .ensures then at-put-table .put-table .ensures)
 
 pub put-table-on-alpha-spec : {M : Type 1} → statement M
 put-table-on-alpha-spec =

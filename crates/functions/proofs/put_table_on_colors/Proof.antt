@@ -8,7 +8,13 @@ use Rattle.functions.proofs.put_table_on_colors.Tie as tie
 
 returns : tie.Need-returns
 unfolding kindBytes componentTransferBytes transferFunctionBytes
-returns c = c .before .before .before .before .before .before .before .before .before .before .before .before .before .before .before .before .before .before .put-head .ensures then (c .before .before .before .before .before .before .before .before .before .before .before .before .before .before .put-table .ensures then c .before .before .before .before .before .before .before .before .before .before .put-table2 .ensures then c .before .before .before .before .before .before .put-table3 .ensures then c .before .before .put-u8 .ensures)
+returns c =
+    let at-put-u8 = c .before .before in
+    let at-put-table3 = at-put-u8 .before .before .before .before in
+    let at-put-table2 = at-put-table3 .before .before .before .before in
+    let at-put-table = at-put-table2 .before .before .before .before in
+    let at-put-head = at-put-table .before .before .before .before in
+    at-put-head .put-head .ensures then (at-put-table .put-table .ensures then at-put-table2 .put-table2 .ensures then at-put-table3 .put-table3 .ensures then at-put-u8 .put-u8 .ensures)
 
 pub put-table-on-colors-spec : {M : Type 1} → statement M
 put-table-on-colors-spec =

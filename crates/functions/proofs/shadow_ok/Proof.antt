@@ -12,15 +12,32 @@ returns c = rw (← c .before .before .byte .ensures) (simp (sym (c .before .mar
 
 returns-2 : tie.Need-returns-2
 unfolding shadowOk
-returns-2 c = rw (← c .before .before .before .before .byte .ensures, ← c .before .byte2 .ensures) (simp (sym (c .before .before .before .marked-ok .ensures) ∙ not-false _ (c .before .before .if1 .left), lt-leb _ _ (c .if2 .taken)))
+returns-2 c =
+    let at-if1 = c .before .before in
+    let at-marked-ok = at-if1 .before in
+    let at-byte = at-marked-ok .before in
+    rw (← at-byte .byte .ensures, ← c .before .byte2 .ensures) (simp (sym (at-marked-ok .marked-ok .ensures) ∙ not-false _ (at-if1 .if1 .left), lt-leb _ _ (c .if2 .taken)))
 
 returns-3 : tie.Need-returns-3
 unfolding shadowOk
-returns-3 c = rw (← c .before .before .before .before .before .before .byte .ensures, ← c .before .before .before .byte2 .ensures, ← c .before .byte3 .ensures) (simp (sym (c .before .before .before .before .before .marked-ok .ensures) ∙ not-false _ (c .before .before .before .before .if1 .left), le-leb _ _ (c .before .before .if2 .left), lt-leb _ _ (c .if3 .taken)))
+returns-3 c =
+    let at-if2 = c .before .before in
+    let at-byte2 = at-if2 .before in
+    let at-if1 = at-byte2 .before in
+    let at-marked-ok = at-if1 .before in
+    let at-byte = at-marked-ok .before in
+    rw (← at-byte .byte .ensures, ← at-byte2 .byte2 .ensures, ← c .before .byte3 .ensures) (simp (sym (at-marked-ok .marked-ok .ensures) ∙ not-false _ (at-if1 .if1 .left), le-leb _ _ (at-if2 .if2 .left), lt-leb _ _ (c .if3 .taken)))
 
 returns-4 : tie.Need-returns-4
 unfolding shadowOk
-returns-4 c = rw (← c .before .before .before .before .before .before .before .byte .ensures, ← c .before .before .before .before .byte2 .ensures, ← c .before .before .byte3 .ensures, ← c .byte4 .ensures) (simp (sym (c .before .before .before .before .before .before .marked-ok .ensures) ∙ not-false _ (c .before .before .before .before .before .if1 .left), le-leb _ _ (c .before .before .before .if2 .left), le-leb _ _ (c .before .if3 .left)))
+returns-4 c =
+    let at-byte3 = c .before .before in
+    let at-if2 = at-byte3 .before in
+    let at-byte2 = at-if2 .before in
+    let at-if1 = at-byte2 .before in
+    let at-marked-ok = at-if1 .before in
+    let at-byte = at-marked-ok .before in
+    rw (← at-byte .byte .ensures, ← at-byte2 .byte2 .ensures, ← at-byte3 .byte3 .ensures, ← c .byte4 .ensures) (simp (sym (at-marked-ok .marked-ok .ensures) ∙ not-false _ (at-if1 .if1 .left), le-leb _ _ (at-if2 .if2 .left), le-leb _ _ (c .before .if3 .left)))
 
 pub shadow-ok-spec : {M : Type 1} → statement M
 shadow-ok-spec =

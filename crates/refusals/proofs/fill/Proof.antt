@@ -1,5 +1,5 @@
 -- Every turn writes one byte and goes one place on, so the loop ends at the end of the slice. Assumes nothing.
-use Prim.Native.Nat.{_+_, _-_, _≤_}
+use Prim.Native.Nat.{_-_, _≤_}
 use mathlib.Core.Path.{_≡_}
 use lib.ListN.{length}
 use borrow.Author.Needs.{needs}

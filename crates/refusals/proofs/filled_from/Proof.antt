@@ -1,6 +1,5 @@
 -- Every turn goes one place on, and the place is tested against the length before the byte is read. Assumes nothing.
-use Prim.Native.Nat.{_+_, _-_, _≤_}
-use mathlib.Core.Path.{_≡_}
+use Prim.Native.Nat.{_-_}
 use lib.ListN.{length}
 use borrow.Author.Needs.{needs}
 use Rattle.refusals.proofs.filled_from.Statement.{statement}

@@ -1,0 +1,3 @@
+pub mod Collecting
+pub mod Lists
+pub mod Claims

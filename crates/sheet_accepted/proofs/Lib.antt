@@ -1,0 +1,3 @@
+pub mod Layouts
+pub mod Opacities
+pub mod Accepted
