@@ -1,0 +1,117 @@
+-- The f32 lists of a sheet's nodes take no more bytes than the sheet has, since node records touch and attributes fill them. Assumes nothing.
+use Prim.Native.Nat.{ℕ, zero, suc, _+_, _*_, _/_, _≤_}
+use native.Mathlib.Omega.{arith}
+use mathlib.Core.Path.{_≡_, refl, ap}
+use mathlib.Core.Bool.{Bool, true, false, cond, _&&_}
+use mathlib.Core.List.{List, [], _∷_, map}
+use lib.Dec.{T, eqb}
+use lib.ListN.{length, getD}
+use lib.Ieee.Fits.{and-l, and-r}
+use lib.Ieee.Bits.{is-true}
+use borrow.Author.Tests.{eqb-true}
+use Rattle.bits.specs.Bytes.{le16}
+use Rattle.bits.proofs.Runs.{length-bytesFrom}
+use Rattle.sheet_fields.specs.Fields.{Kind·Text, Kind·Number, Kind·Numbers, Kind·Length, Kind·Color, Kind·Tries}
+use Rattle.svgtree.specs.Values.{Value, absent, textValue, numberValue, numbersValue, lengthValue, colorValue, triesValue, Attribute, Node}
+use Rattle.svgtree.specs.Parse.{single, singlesFrom, lengthAt, colorAt, triedAt, valueAt, attributeAt, placesOf, nodeFrom, countOf, offsetOf, nodeAt, nodesFrom}
+use Rattle.sheet_layout.specs.Tests.{rising, sum}
+use Rattle.field_tests.specs.Tests.{all}
+use Rattle.sheet_layout.specs.Records.{Entry, entryAt, entrySize, NodeRecord, recordAt, recordsFrom}
+use Rattle.sheet_layout.specs.Layout.{entryOk, entriesOk, headOk, recordOk, headerOk, touch, depthsOk, layoutOk}
+
+-- four bytes for each number of an f32 list
+abbrev pub valueNumbers : Value → ℕ
+valueNumbers absent = 0
+valueNumbers (textValue t) = 0
+valueNumbers (numberValue x) = 0
+valueNumbers (numbersValue xs) = 4 * length xs
+valueNumbers (lengthValue u x) = 0
+valueNumbers (colorValue k) = 0
+valueNumbers (triesValue t) = 0
+
+abbrev pub attributesNumbers : List Attribute → ℕ
+attributesNumbers [] = 0
+attributesNumbers (a ∷ as′) = valueNumbers (a .value) + attributesNumbers as′
+
+abbrev pub nodeNumbers : Node → ℕ
+nodeNumbers n = attributesNumbers (n .attributes)
+
+abbrev pub nodesNumbers : List Node → ℕ
+nodesNumbers [] = 0
+nodesNumbers (n ∷ ns) = nodeNumbers n + nodesNumbers ns
+
+-- ---- a value, and the attributes of a node
+
+singles-length : (s : List ℕ) (at n : ℕ) → length (singlesFrom s at n) ≡ n
+unfolding singlesFrom
+singles-length s at zero = refl
+singles-length s at (suc n) = ap suc (singles-length s (at + 4) n)
+
+module _ (s : List ℕ) where
+  -- whichever kind a value has
+  by-kind : (at len : ℕ) (text : List ℕ) (t n ns l c tr : Bool)
+      → valueNumbers (cond t (textValue text) (cond n (numberValue (single s at)) (cond ns (numbersValue (singlesFrom s at (len / 4))) (cond l (lengthAt s at) (cond c (colorValue (colorAt s at)) (cond tr (triesValue (triedAt s at)) absent)))))) ≤ len
+  by-kind at len text true n ns l c tr = omega arith
+  by-kind at len text false true ns l c tr = omega arith
+  by-kind at len text false false true l c tr = omega (arith, singles-length s at (len / 4))
+  by-kind at len text false false false true c tr = omega arith
+  by-kind at len text false false false false true tr = omega arith
+  by-kind at len text false false false false false true = omega arith
+  by-kind at len text false false false false false false = omega arith
+
+  value-long : (kind at len : ℕ) → valueNumbers (valueAt s kind at len) ≤ len
+  unfolding valueAt
+  value-long kind at len = by-kind at len _ (eqb kind Kind·Text) (eqb kind Kind·Number) (eqb kind Kind·Numbers) (eqb kind Kind·Length) (eqb kind Kind·Color) (eqb kind Kind·Tries)
+
+  attribute-long : (at : ℕ) → valueNumbers (attributeAt s at .value) ≤ entrySize (entryAt s at)
+  unfolding attributeAt entryAt
+  attribute-long at = omega (arith, value-long (getD s (at + 2) 0) (at + 6) (le16 s (at + 4)), length-bytesFrom s (at + 6) (le16 s (at + 4)))
+
+  attributes-long : (ps : List ℕ) → attributesNumbers (map (attributeAt s) ps) ≤ sum (map entrySize (map (entryAt s) ps))
+  unfolding sum
+  attributes-long [] = omega arith
+  attributes-long (p ∷ ps) = omega (arith, attribute-long p, attributes-long ps)
+
+  -- ---- a node: its attributes fill its record
+
+  entries-fill : (depth size : ℕ) (es : List Entry) → T (entriesOk depth size es) → 8 + sum (map entrySize es) ≡ size
+  unfolding entriesOk
+  entries-fill depth size es h =
+      eqb-true (8 + sum (map entrySize es)) size
+      (is-true (eqb (8 + sum (map entrySize es)) size) (and-r (all (entryOk depth) es && rising (map (λ (e : Entry). e .id) es)) (eqb (8 + sum (map entrySize es)) size) h))
+
+  node-long : (i : ℕ) → T (recordOk (recordAt s i)) → nodeNumbers (nodeAt s i) ≤ recordAt s i .size
+  unfolding recordOk recordAt nodeFrom
+  node-long i h =
+      let r = recordAt s i in
+      let e : 8 + sum (map entrySize (r .entries)) ≡ r .size = entries-fill (r .depth) (r .size) (r .entries) (and-r (headOk (r .depth) (r .tag) (r .count) (r .zero)) (entriesOk (r .depth) (r .size) (r .entries)) h) in
+      omega (arith, attributes-long (placesOf s (offsetOf s i)), e)
+
+  -- ---- the nodes: their records touch, and the last ends the sheet
+
+  sizesOf : List NodeRecord → ℕ
+  sizesOf [] = 0
+  sizesOf (r ∷ rs) = r .size + sizesOf rs
+
+  nodes-long : (i n : ℕ) → T (all recordOk (recordsFrom s i n)) → nodesNumbers (nodesFrom s i n) ≤ sizesOf (recordsFrom s i n)
+  unfolding all recordsFrom nodesFrom sizesOf
+  nodes-long i zero h = omega arith
+  nodes-long i (suc n) h =
+      let ok = recordOk (recordAt s i) in
+      let rest = all recordOk (recordsFrom s (i + 1) n) in
+      omega (arith, node-long i (and-l ok rest h), nodes-long (i + 1) n (and-r ok rest h))
+
+  records-end : (at end : ℕ) (rs : List NodeRecord) → T (touch at end rs) → at + sizesOf rs ≡ end
+  unfolding touch sizesOf
+  records-end at end [] h = omega (arith, eqb-true at end (is-true (eqb at end) h))
+  records-end at end (r ∷ rs) h = omega (arith, records-end (at + r .size) end rs (and-r (eqb (r .offset) at) (touch (at + r .size) end rs) h))
+
+  pub numbers-fit : T (layoutOk s) → nodesNumbers (nodesFrom s 0 (countOf s)) ≤ length s
+  unfolding layoutOk
+  numbers-fit h =
+      let rs = recordsFrom s 0 (countOf s) in
+      let front = touch (74 + 8 * countOf s) (length s) rs in
+      let records = and-l (headerOk s && front && all recordOk rs) (depthsOk false rs) h in
+      let ok = and-r (headerOk s && front) (all recordOk rs) records in
+      let touching = and-r (headerOk s) front (and-l (headerOk s && front) (all recordOk rs) records) in
+      omega (arith, nodes-long 0 (countOf s) ok, records-end (74 + 8 * countOf s) (length s) rs touching)

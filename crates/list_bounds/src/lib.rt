@@ -1,0 +1,1 @@
+// How long the list of an accepted sheet can be. No code.
