@@ -3,7 +3,9 @@
 #
 #   harness/run.sh [-s FOLDER] [compare] [SHEETS]   compares SHEETS sheets, one million unless said otherwise
 #   harness/run.sh [-s FOLDER] store                writes the stored answers of crates/replay
-#   harness/run.sh [-s FOLDER] speed                prints the tables of docs/SPEED.md
+#   harness/run.sh [-s FOLDER] lists                writes the stored lists of crates/read, and which are in the layout
+#   harness/run.sh [-s FOLDER] speed                prints the first two tables of docs/SPEED.md
+#   harness/run.sh [-s FOLDER] real SVG..           the third: the filters of the SVG files below these folders (needs python3)
 #   harness/run.sh [-s FOLDER] help                 every command and option
 #
 # FOLDER, or the variable USVG_SRC, is the src folder of usvg 0.49.0: the one with parser/filter.rs in it.
@@ -19,6 +21,11 @@ if [ ! -f "$src/parser/filter.rs" ] || [ ! -f "$src/tree/filter.rs" ]; then
     exit 2
 fi
 src=$(cd "$src" && pwd)
+if [ "${1:-}" = real ]; then
+    shift
+    python3 "$top/harness/real/sheets.py" "$src" "$top/target/harness/real" "$@"
+    set -- real target/harness/real
+fi
 cd "$top"
 build=target/harness
 

@@ -7,7 +7,7 @@
 //! - no input is ruled out, and every call returns.
 //!
 //! A C caller owes three things, all of which hold of a `&[u8]` beside a `&mut [u8]`: each length is true, the two do
-//! not overlap, nobody else writes to either meanwhile. Where a length is 0 its pointer isn't read. So the wrappers
+//! not overlap, no other thread writes to either meanwhile. Where a length is 0 its pointer isn't read. So the wrappers
 //! are safe whatever they are given.
 
 #[repr(C)]

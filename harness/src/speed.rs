@@ -1,4 +1,4 @@
-//! Times the library and the crate's conversion on the same sheets, from one driver, in turns, and prints the tables of docs/SPEED.md.
+//! Times the library and the crate's conversion on the same sheets, from one driver, in turns, and prints the first two tables of docs/SPEED.md.
 //!
 //! The library is given the sheet's bytes: it checks them, measures and writes the list. The crate is given its tree, already built,
 //! and makes its `Vec<Primitive>`, which is dropped; once more with the list's bytes written behind it. The output buffers of both are
@@ -15,19 +15,23 @@ use crate::generate::{list_attr, number_attr, text_attr, tries_attr};
 use crate::library;
 use crate::model::{Attr, Node, Sheet};
 
-/// One sample lasts about this long.
-const SAMPLE_NS: f64 = 2e6;
-const SAMPLES: usize = 101;
-
-/// Nanoseconds a call: a tenth of the samples lie below the first, nine tenths below the last.
-#[derive(Clone, Copy)]
-struct Times {
-    tenth: f64,
-    median: f64,
-    nine_tenths: f64,
+/// How many samples are taken of a sheet, and about how long each is, in nanoseconds.
+pub struct Effort {
+    pub samples: usize,
+    pub sample_ns: f64,
 }
 
-fn times(mut samples: Vec<f64>) -> Times {
+const EFFORT: Effort = Effort { samples: 101, sample_ns: 2e6 };
+
+/// A tenth of the samples lie below the first, nine tenths below the last. In nanoseconds a call, where they are times.
+#[derive(Clone, Copy)]
+pub struct Times {
+    pub tenth: f64,
+    pub median: f64,
+    pub nine_tenths: f64,
+}
+
+pub fn times(mut samples: Vec<f64>) -> Times {
     samples.sort_by(f64::total_cmp);
     let at = |p: f64| samples[((samples.len() - 1) as f64 * p).round() as usize];
     Times { tenth: at(0.1), median: at(0.5), nine_tenths: at(0.9) }
@@ -61,16 +65,16 @@ fn sample(calls: usize, f: &mut dyn FnMut()) -> f64 {
 }
 
 /// Times several functions in turns, so that what disturbs the machine disturbs all alike.
-fn measure(fs: &mut [&mut dyn FnMut()]) -> Vec<Times> {
+fn measure(effort: &Effort, fs: &mut [&mut dyn FnMut()]) -> Vec<Times> {
     let calls: Vec<usize> = fs
         .iter_mut()
         .map(|f| {
             let once = sample(3, *f);
-            (SAMPLE_NS / once).max(1.0) as usize
+            (effort.sample_ns / once).max(1.0) as usize
         })
         .collect();
     let mut samples = vec![Vec::new(); fs.len()];
-    for _ in 0..SAMPLES {
+    for _ in 0..effort.samples {
         for ((f, n), s) in fs.iter_mut().zip(&calls).zip(&mut samples) {
             s.push(sample(*n, *f));
         }
@@ -78,37 +82,46 @@ fn measure(fs: &mut [&mut dyn FnMut()]) -> Vec<Times> {
     samples.into_iter().map(times).collect()
 }
 
-struct Row {
-    name: String,
+pub struct Row {
+    pub name: String,
     sheet: usize,
     list: usize,
-    primitives: usize,
-    library: Times,
-    crate_alone: Times,
-    crate_bytes: Times,
+    pub primitives: usize,
+    pub library: Times,
+    pub crate_alone: Times,
+    pub crate_bytes: Times,
 }
 
-fn row(name: &str, s: &Sheet) -> Row {
-    let bytes = s.bytes();
+impl Row {
+    pub fn ratio(&self) -> f64 {
+        self.library.median / self.crate_alone.median
+    }
+}
+
+/// A sheet that is accepted.
+pub fn row(name: &str, bytes: &[u8], effort: &Effort) -> Row {
     let mut out = vec![0; 300_000];
-    let got = library::convert(&bytes, &mut out);
+    let got = library::convert(bytes, &mut out);
     assert_eq!(got.number, 0, "{} is refused", name);
-    let prepared = Prepared::new(&bytes).unwrap();
+    let prepared = Prepared::new(bytes).unwrap();
     let mut list = Vec::with_capacity(300_000);
     prepared.convert_to(&mut list);
     assert!(list == out[..got.length], "{}: the two lists differ", name);
-    let t = measure(&mut [
-        &mut || {
-            black_box(library::convert(black_box(&bytes), black_box(&mut out)));
-        },
-        &mut || {
-            black_box(black_box(&prepared).convert());
-        },
-        &mut || {
-            black_box(&prepared).convert_to(&mut list);
-            black_box(&list);
-        },
-    ]);
+    let t = measure(
+        effort,
+        &mut [
+            &mut || {
+                black_box(library::convert(black_box(bytes), black_box(&mut out)));
+            },
+            &mut || {
+                black_box(black_box(&prepared).convert());
+            },
+            &mut || {
+                black_box(&prepared).convert_to(&mut list);
+                black_box(&list);
+            },
+        ],
+    );
     Row {
         name: name.to_string(),
         sheet: bytes.len(),
@@ -121,7 +134,7 @@ fn row(name: &str, s: &Sheet) -> Row {
 }
 
 /// Nanoseconds with three figures at least.
-fn ns(n: f64) -> String {
+pub fn ns(n: f64) -> String {
     if n < 100.0 { format!("{:.1}", n) } else { crate::tally::grouped(n.round() as u64) }
 }
 
@@ -142,7 +155,7 @@ fn print_rows(rows: &[Row]) {
             spread(r.library),
             spread(r.crate_alone),
             spread(r.crate_bytes),
-            r.library.median / r.crate_alone.median
+            r.ratio()
         );
     }
 }
@@ -290,7 +303,8 @@ fn kinds(n: usize) -> Sheet {
     page((0..n).map(|i| fe(crate::generate::PRIMITIVES[i % 16])).collect())
 }
 
-pub fn speed() -> ExitCode {
+/// What the times were taken on and how.
+pub fn print_machine(effort: &Effort) {
     let version = std::process::Command::new("rustc")
         .arg("--version")
         .output()
@@ -302,18 +316,23 @@ pub fn speed() -> ExitCode {
         "{}, {}; processor time; median of {} samples of about {} ms each, and in brackets the first and the ninth tenth\n",
         cpu.unwrap_or_default(),
         version.unwrap_or_default(),
-        SAMPLES,
-        SAMPLE_NS / 1e6
+        effort.samples,
+        effort.sample_ns / 1e6
     );
+}
+
+pub fn speed() -> ExitCode {
+    print_machine(&EFFORT);
+    let timed = |name: &str, s: Sheet| row(name, &s.bytes(), &EFFORT);
     print_rows(&[
-        row("small: blur, offset, merge", &small()),
-        row("typical: twelve primitives", &typical()),
-        row("largest: 512 feTile", &tiles(512)),
-        row("largest: 512 of all kinds", &kinds(512)),
-        row("largest: 512 named, all read the first", &named_tiles(512)),
-        row("longest list", &of_longest_list()),
+        timed("small: blur, offset, merge", small()),
+        timed("typical: twelve primitives", typical()),
+        timed("largest: 512 feTile", tiles(512)),
+        timed("largest: 512 of all kinds", kinds(512)),
+        timed("largest: 512 named, all read the first", named_tiles(512)),
+        timed("longest list", of_longest_list()),
     ]);
-    println!("\nGrowth, ns (library | crate) by the number of nodes:\n");
+    println!("\nGrowth, ns (library \\| crate) and the library's over the crate's, by the number of nodes:\n");
     let sizes = [8, 16, 32, 64, 128, 256, 512];
     println!("| chain | {} |", sizes.map(|n| n.to_string()).join(" | "));
     println!("|---|{}", "---|".repeat(sizes.len()));
@@ -329,8 +348,8 @@ pub fn speed() -> ExitCode {
         let cells: Vec<String> = sizes
             .iter()
             .map(|n| {
-                let r = row(name, &make(*n));
-                format!("{} \\| {}", ns(r.library.median), ns(r.crate_alone.median))
+                let r = timed(name, make(*n));
+                format!("{} \\| {}: {:.2}", ns(r.library.median), ns(r.crate_alone.median), r.ratio())
             })
             .collect();
         println!("| {} | {} |", name, cells.join(" | "));

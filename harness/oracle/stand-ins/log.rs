@@ -1,4 +1,4 @@
-//! Stand-in for the crate log: warnings go into a list, and are spelled out only while somebody listens (as with the real crate).
+//! Stand-in for the crate log: warnings go into a list, and are spelled out only after `listen(true)`, as the real crate does it only for a logger.
 
 use std::cell::{Cell, RefCell};
 

@@ -1,5 +1,6 @@
 //! Stand-in for the crate strict-num: only what usvg's filter code needs.
-//! Bodies follow Debian's strict-num 0.1.0 and float-cmp 0.9.0 (ulps_eq.rs).
+//! The bodies follow strict-num 0.1.0 and, for `approx_eq_ulps`, float-cmp 0.9.0 (ulps_eq.rs), both as Debian packages
+//! them. Which versions usvg 0.49.0 names is not known here: its Cargo.toml was not at hand.
 
 pub trait Ulps {
     type U: Copy;

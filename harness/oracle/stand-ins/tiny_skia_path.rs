@@ -1,8 +1,7 @@
-//! Stand-in for the crate tiny-skia-path: only the geometry that usvg's filter code
-//! and tree/geom.rs need. `Rect` follows Debian's tiny-skia-path 0.8.3
-//! (rect.rs: from_ltrb, from_xywh, checked_f32_sub). `NonZeroRect`, `Size` and
-//! `bbox_transform` are not in 0.8.3; they are written from document 01,
-//! "Geometry beneath the crate".
+//! Stand-in for the crate tiny-skia-path: only the geometry that usvg's filter code and tree/geom.rs need.
+//! `Rect` follows tiny-skia-path 0.8.3 as Debian packages it (rect.rs: from_ltrb, from_xywh, checked_f32_sub).
+//! `NonZeroRect`, `Size` and `bbox_transform` are not in 0.8.3: they are written from document 01, "Geometry beneath the
+//! crate". Which version usvg 0.49.0 names is not known here: its Cargo.toml was not at hand.
 
 use strict_num::{FiniteF32, NonZeroPositiveF32};
 

@@ -1,0 +1,89 @@
+//! The filters of real drawings: compares the two sides on each sheet of a folder, and times those that are accepted. Prints the third
+//! table of docs/SPEED.md. real/sheets.py makes the sheets.
+
+use std::path::Path;
+use std::process::ExitCode;
+
+use crate::compare::{Call, Room};
+use crate::speed::{Effort, Row, ns, print_machine, row, times};
+use crate::tally::grouped;
+
+const EFFORT: Effort = Effort { samples: 31, sample_ns: 2e5 };
+
+/// The sheets of a folder by their file's names.
+fn sheets(folder: &Path) -> Option<Vec<(String, Vec<u8>)>> {
+    let mut found = Vec::new();
+    for entry in std::fs::read_dir(folder).ok()? {
+        let path = entry.ok()?.path();
+        if path.extension().is_some_and(|e| e == "sheet") {
+            found.push((path.file_name()?.to_string_lossy().into_owned(), std::fs::read(&path).ok()?));
+        }
+    }
+    found.sort();
+    Some(found)
+}
+
+/// The number that both sides answer with room to spare, or None and a printed line where they differ in any of four calls.
+fn compared(room: &mut Room, name: &str, bytes: &[u8]) -> Option<u8> {
+    let wanted = oracle::run::sheet(bytes).answer;
+    let n = wanted.as_ref().map_or(0, Vec::len);
+    for length in [n + 64, n, n.saturating_sub(1), 0] {
+        if let Some(what) = room.check(Call::Sheet, bytes, length, &wanted, length).flatten() {
+            println!("DIFFERENCE, {}, output of {} bytes: {}", name, length, what);
+            return None;
+        }
+    }
+    Some(wanted.err().unwrap_or(0))
+}
+
+fn print_table(rows: &[Row]) {
+    let sum = |f: fn(&Row) -> f64| rows.iter().map(f).sum::<f64>();
+    let library = sum(|r| r.library.median);
+    let alone = sum(|r| r.crate_alone.median);
+    let ratios = times(rows.iter().map(Row::ratio).collect());
+    println!("| | |\n|---|---|");
+    println!("| accepted and timed | {} filters, {} primitives |", rows.len(), sum(|r| r.primitives as f64));
+    println!("| library, all of them | {} ns |", ns(library));
+    println!("| crate | {} ns |", ns(alone));
+    println!("| crate and bytes | {} ns |", ns(sum(|r| r.crate_bytes.median)));
+    println!("| library / crate, all of them | {:.2} |", library / alone);
+    println!(
+        "| library / crate of one filter | median {:.2}, first tenth {:.2}, ninth tenth {:.2} |",
+        ratios.median, ratios.tenth, ratios.nine_tenths
+    );
+}
+
+/// `each` prints a line for every filter that is timed, too.
+pub fn real(folder: &str, each: bool) -> Option<ExitCode> {
+    let all = sheets(Path::new(folder))?;
+    let mut room = Room::new();
+    let mut numbers = [0u64; 10];
+    let mut differences = 0;
+    let mut accepted = Vec::new();
+    for (name, bytes) in &all {
+        let Some(n) = compared(&mut room, name, bytes) else {
+            differences += 1;
+            continue;
+        };
+        numbers[n as usize] += 1;
+        if n == 0 {
+            accepted.push((name, bytes));
+        }
+    }
+    println!("{} filters, {} differences; by the answer's number:", grouped(all.len() as u64), differences);
+    for (n, many) in numbers.iter().enumerate().filter(|(_, many)| **many > 0) {
+        println!("    {}: {}", n, many);
+    }
+    if differences > 0 {
+        return Some(ExitCode::FAILURE);
+    }
+    print_machine(&EFFORT);
+    let rows: Vec<Row> = accepted.iter().map(|(name, bytes)| row(name, bytes, &EFFORT)).collect();
+    if each {
+        for r in &rows {
+            println!("{} {} {} {:.2}", r.name, ns(r.library.median), ns(r.crate_alone.median), r.ratio());
+        }
+    }
+    print_table(&rows);
+    Some(ExitCode::SUCCESS)
+}
