@@ -7,15 +7,15 @@
  *
  * The archive is for x86-64 Linux. It needs memcpy and memset of the C library and nothing else.
  *
- * What is said of a function's answer and output below is proved of it, for every input, except where it says "measured" or "counted". The proof is about
- * calls that keep what a caller owes:
+ * What is said of a function's answer and output below is proved of it, for every input, except where it says "measured". The proof is about calls that
+ * keep what a caller owes:
  *
  *   - each length is true: so many bytes can be read, or written, at the pointer. Where a length is 0 the pointer is not used and may be null;
- *   - the two buffers do not overlap, and nobody else writes to either during the call;
+ *   - the two buffers do not overlap, and no other thread writes to either during the call;
  *   - the processor computes as IEEE 754 has it, rounding to nearest and keeping subnormal numbers. That is how a process starts; a program that was
  *     linked with -ffast-math, or that has called fesetround, may have changed it.
  *
- * Nothing is owed as to what the bytes are: any sheet gets an answer. Every call ends. A call keeps no state and no pointer, allocates nothing, reads and
+ * The bytes may be any bytes: every sheet gets an answer. Every call ends. A call keeps no state and no pointer, allocates nothing, reads and
  * writes nothing but the two buffers and its own stack, and sets no errno; calls in several threads do not disturb each other. Both buffers stay the
  * caller's. */
 #ifndef ZATONGAE_H
@@ -31,11 +31,17 @@ extern "C" {
 /* The most bytes that a sheet may have. */
 #define ZATONGAE_SHEET_BYTES 65536
 
-/* As many bytes as any list needs (counted from the layouts of sheet and list; not proved): with an output of this size 9 is never given. */
+/* No list is longer (theorem `accepted-fits` of crates/list_bounds), so with an output of this size 9 is never given. */
 #define ZATONGAE_LIST_BYTES 524288
 
-/* The numbers of an answer. 1 to 5 are tested in this order over the whole sheet, used or not; then 6 for the filter region; then the first 6 or 7 that a
- * child meets, in order; then 8 and 9. */
+/* The numbers of an answer. They are tested in this order, and the first whose cause holds is given:
+ *
+ *   - 1, 2, 3, 4, 5, each over the whole sheet, used or not;
+ *   - 6 for placing the filter region;
+ *   - 8 where the primitives are in box units and there is no box. No child is looked at then, so a child that would give 6 does not;
+ *   - the first 6 or 7 that a child meets, in child order, up to the child that ends the chain;
+ *   - 8 where no child makes a primitive;
+ *   - 9. */
 enum zatongae_number {
     ZATONGAE_LIST = 0,           /* a list is given */
     ZATONGAE_TOO_LARGE = 1,      /* sheet over 65,536 bytes, or node count over 512 (a sheet under 74 bytes is 2) */
@@ -47,7 +53,7 @@ enum zatongae_number {
     ZATONGAE_NOT_PLACED = 6,     /* placing the filter region or a child makes no rectangle; a radius product is not finite; or, for feDisplacementMap in
                                     box units, box width + height is not finite */
     ZATONGAE_BASE_FREQUENCY = 7, /* a base frequency positive in sign but not finite. No call answers it, since 3 comes before: that is proved */
-    ZATONGAE_NO_PRIMITIVE = 8,   /* no child makes a primitive; box units for primitives without a box make none */
+    ZATONGAE_NO_PRIMITIVE = 8,   /* no child makes a primitive, or primitives in box units have no box */
     ZATONGAE_NO_ROOM = 9         /* the output is shorter than the list */
 };
 
@@ -59,14 +65,14 @@ struct zatongae_answer {
 
 /* Converts the sheet of sheet_len bytes at sheet, and writes its list to the out_len bytes at out.
  *
- * number 0: the first length bytes of out are the list, and the rest of out is as it was. The list has one primitive for each child of the filter that
- * counts, in order. Each input of a primitive is SourceGraphic, SourceAlpha, or the result of an earlier primitive of the list: the one that the filter's
- * own rule means, found by taking the newest earlier one of that name. No number in the list is NaN. Each kernel, divisor, radius, deviation, specular
- * exponent and opacity is in its range.
+ * number 0: the first length bytes of out are the list, and the rest of out is as it was. A reader of these bytes finds one record for each child of the
+ * filter that counts, in order, and nothing behind the last. Each input of a record is SourceGraphic, SourceAlpha, or the result of an earlier record: the
+ * one that the filter's own rule means, found by taking the newest earlier record of that name. No 32-bit pattern in the place of a number is a NaN's; an
+ * infinity may stand there. Each kernel, divisor, radius, deviation, specular exponent and opacity is in its range.
  *
- * Any other number: length is 0 and every byte of out is as it was. The number is the first of the table above whose cause holds.
+ * Any other number: length is 0 and every byte of out is as it was.
  *
- * Stack: at most 41,944 bytes, measured on 9,754 sheets, every kind of child and every number but 7 among them. */
+ * Stack: at most STACKBYTES bytes, measured on 4,379 sheets, every kind of child and every number but 7 among them. */
 struct zatongae_answer zatongae_convert(const uint8_t *sheet, size_t sheet_len, uint8_t *out, size_t out_len);
 
 /* The bits of an f64 to the bits of the nearest f32, ties to even; the way in which every f64 of a sheet is taken. Too large a number gives the infinity of
