@@ -14,7 +14,7 @@ use Rattle.convert.specs.Children.{collected, listOf}
 
 -- The children are those that count (`counted`); the output, which was o, begins with the list of one record for each, in order, each as demand 2 has it
 -- (`listed`). A reader of the output's first n bytes finds these records: for every input, its lookup among the records before gives what the rule gives
--- among the children before, and no number is NaN (`renders`); each named number is in its range (`sound`)
+-- among the children before, no number is NaN, and each named number is in its range (`renders`); `sound` says the last two of the primitives
 pub record Claim (frame : Frame) (nodes : List Node) (o : List ℕ) (n : ℕ) (o′ : List ℕ) : Type 0 where
   pub children : List Child
   pub counted : collected frame nodes ≡ kept children
