@@ -1,7 +1,7 @@
--- Laws on elements and on the chain: an element goes by its tag, a node by its depth, tag and region, and the chain goes node by node. Assumes nothing.
-use mathlib.Core.Path.{_≡_, refl, sym, ap, _∙_}
+-- Laws on the chain: a node goes by its depth, tag and region, and the chain goes node by node. Assumes nothing.
+use mathlib.Core.Path.{_≡_, refl, ap, _∙_}
 use mathlib.Core.List.{List, [], _∷_}
-use Prim.Native.Nat.{ℕ, _+_, _-_, _≤_, _<_}
+use Prim.Native.Nat.{ℕ, _+_, _-_, _<_}
 use native.Mathlib.Omega.{arith}
 use borrow.Author.Tests.{ne-eqb}
 use Rattle.svgtree.specs.Values.{Node}
@@ -10,20 +10,10 @@ use Rattle.svgtree.specs.Parse.{countOf, nodeAt, nodesFrom}
 use Rattle.svgtree.proofs.Following.{nodes-none, nodes-step}
 use Rattle.region.specs.declared.Frame.{Frame}
 use Rattle.subregion.specs.Subregions.{regionOf}
-use Rattle.chain.specs.declared.elements.Made.{Made}
-use Rattle.chain.specs.Elements.{elements, byTag, kindOf}
 use Rattle.chain.specs.Chain.{Step, pass, kept, follow, regionStep, stepOf, chain}
-use Rattle.chain.specs.Means.{Makes, stepAt, chainFrom}
+use Rattle.chain.specs.Means.{stepAt, chainFrom}
 
 module _ (frame : Frame) (n : Node) (rest : List Node) where
-  pub kind-tag : (t : ℕ) → n .tag ≡ t → kindOf frame n rest ≡ byTag (elements frame n rest) t
-  unfolding kindOf
-  kind-tag t e = ap (byTag (elements frame n rest)) e
-
-  -- an answer for the row of the element's tag is one for the element
-  pub made-by : {s : List ℕ} {r : Made} {a b : ℕ} (t : ℕ) → n .tag ≡ t → Makes s r (byTag (elements frame n rest) t) a → a ≤ b → Makes s r (kindOf frame n rest) b
-  made-by t e m h = record { exact = m .exact ∙ sym (kind-tag t e); within = omega (arith, m .within) }
-
   pub step-depth : n .depth ≡ 1 → stepOf frame n rest ≡ pass
   unfolding stepOf
   step-depth e = rw e refl

@@ -14,8 +14,8 @@ use Rattle.subregion.specs.declared.Subregion.{Subregion}
 use Rattle.subregion.specs.declared.Subregion.the-variants as region
 use Rattle.subregion.specs.Subregions.{regionOf}
 use Rattle.fe.specs.ColorInterpolation.{colorInterpolationOf}
-use Rattle.chain.specs.Elements.{Made, made, unsupported, kindOf}
-use Rattle.chain.specs.Elements as element
+use Rattle.elements.specs.Elements.{Made, made, unsupported, kindOf}
+use Rattle.elements.specs.Elements as element
 
 -- what a node does to the chain: it is passed over, it ends the chain, it refuses the sheet, or it is a child that counts
 pub data Step : Type 0 where

@@ -1,3 +1,2 @@
-pub mod Elements
 pub mod Chain
 pub mod Means

@@ -5,33 +5,14 @@ use mathlib.Core.Bool.{true}
 use lib.Dec.{T}
 use mathlib.Core.List.{List, []}
 use Rattle.svgtree.specs.Parse.{countOf, nodeAt, nodesFrom, nodesAfter}
-use Rattle.child.specs.Means.{kindIs, childIs, mergeEnd}
+use Rattle.child.specs.Means.{childIs, mergeEnd}
 use Rattle.region.specs.declared.Frame.{Frame}
-use Rattle.chain.specs.Elements as element
 use Rattle.chain.specs.Chain as chain
 use Rattle.chain.specs.Chain.{Chain, kept, put, stepOf}
-use Rattle.chain.specs.declared.elements.Made.{Made}
-use Rattle.chain.specs.declared.elements.Made.the-variants as made
 use Rattle.chain.specs.declared.Step.{Step}
 use Rattle.chain.specs.declared.Step.the-variants as step
 use Rattle.chain.specs.declared.Next.{Next}
 use Rattle.chain.specs.declared.Next.the-variants as next
-
-abbrev pub madeIs : List ℕ → Made → element.Made
-madeIs s (made.Is k) = element.made (kindIs s k)
-madeIs s made.Unsupported = element.unsupported
-madeIs s (made.Refused why) = element.refused why
-
--- the node after the last that a kind reads its inputs from
-abbrev pub madeEnd : Made → ℕ
-madeEnd (made.Is k) = mergeEnd k
-madeEnd made.Unsupported = 0
-madeEnd (made.Refused why) = 0
-
--- what is said of an element's answer r: it stands for m, and the nodes that its kind reads inputs from are before node `bound`
-pub record Makes (s : List ℕ) (r : Made) (m : element.Made) (bound : ℕ) : Type 0 where
-  pub exact : madeIs s r ≡ m
-  pub within : madeEnd r ≤ bound
 
 abbrev pub stepIs : List ℕ → Step → chain.Step
 stepIs s step.Pass = chain.pass
@@ -39,7 +20,7 @@ stepIs s step.End = chain.end
 stepIs s (step.Refused why) = chain.refused why
 stepIs s (step.Count c) = chain.count (childIs s c)
 
--- as for `madeEnd`
+-- the node after the last that a child's kind reads its inputs from
 abbrev pub stepEnd : Step → ℕ
 stepEnd step.Pass = 0
 stepEnd step.End = 0

@@ -3,8 +3,9 @@ ghost use mathlib.Core.Path.{_≡_};
 ghost use Prim.Native.Nat.{_≤_, _<_};
 ghost use Rattle.svgtree.specs.Parse.{countOf, offsetOf, nodeFrom, childrenOf};
 ghost use Rattle.subregion.specs.Subregions.{regionOf};
+ghost use Rattle.elements.specs.Means.{madeIs, madeEnd};
 ghost use Rattle.chain.specs.Chain.{kindStep, regionStep};
-ghost use Rattle.chain.specs.Means.{madeIs, madeEnd, stepIs, stepEnd, stepAt, NextChild};
+ghost use Rattle.chain.specs.Means.{stepIs, stepEnd, stepAt, NextChild};
 use answer::Refusal;
 use child::Child;
 use elements::Made;
@@ -21,8 +22,6 @@ use svgtree::node_offset;
 use svgtree::nodes::node_count;
 use svgtree::tag;
 use svgtree::text_of;
-
-mod elements;
 
 // What a node does to the chain of children.
 pub enum Step {

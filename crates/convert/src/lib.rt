@@ -20,12 +20,12 @@ use chain::next_child;
 use geom::MaybeRect;
 use list_primitives::primitive_size;
 use list_records::put_records;
+use list_values::put_pairs;
 use region::Frame;
 use results::FilterResults;
 use results::gen_result;
 use results::name_of;
 use svgtree::nodes::node_count;
-use tree::put_pairs;
 use units::Units;
 
 // Why collecting stopped: the chain's end, or a child that refuses the sheet.

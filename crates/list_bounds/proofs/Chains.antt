@@ -49,8 +49,8 @@ use Rattle.fe_turbulence.specs.declared.MaybeTurbulence.the-variants as turbule
 use Rattle.fe_morphology.specs.Morphology.{morphologyOf}
 use Rattle.fe_displacement_map.specs.DisplacementMap.{displacementMapOf}
 use Rattle.fe_turbulence.specs.Turbulence.{turbulenceOf}
-use Rattle.chain.specs.Elements.{Made, made, unsupported, elements, kindOf, convolveMade, diffuseMade, specularMade, morphologyMade, displacementMade, turbulenceMade}
-use Rattle.chain.specs.Elements as element
+use Rattle.elements.specs.Elements.{Made, made, unsupported, elements, kindOf, convolveMade, diffuseMade, specularMade, morphologyMade, displacementMade, turbulenceMade}
+use Rattle.elements.specs.Elements as element
 use Rattle.chain.specs.Chain as chain
 use Rattle.chain.specs.Chain.{Step, pass, end, count, kindStep, regionStep, stepOf, Chain, kept, put, follow}
 use Rattle.ranges.proofs.Children.{All, by-tag}

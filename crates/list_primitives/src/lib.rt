@@ -21,6 +21,8 @@ use list_fields::fields_size;
 use list_fields::inputs_of;
 use list_fields::kind_place;
 use list_fields::put_fields;
+use list_values::color_interpolation_place;
+use list_values::put_rect;
 use names::aid;
 use results::ResultName;
 use results::input_size;
@@ -30,8 +32,6 @@ use results::put_name;
 use results::resolve_input;
 use svgtree::node_offset;
 use svgtree::text_of;
-use tree::color_interpolation_place;
-use tree::put_rect;
 
 // One input, resolved with the names of the first n records.
 

@@ -73,7 +73,7 @@ use Rattle.fe.proofs.Keywords.{keyword-holds}
 use Rattle.fe.proofs.Numbers.{ValueHolds, NodeHolds, number-or}
 use Rattle.fe.proofs.Pairs.{PairHolds, pair-holds}
 use Rattle.fe_light.proofs.Numbers.{LightHolds, first-holds, light-holds}
-use Rattle.chain.specs.Elements.{Made, made, elements, kindOf, in2Of, convolveMade, diffuseMade, specularMade, morphologyMade, displacementMade, turbulenceMade}
+use Rattle.elements.specs.Elements.{Made, made, elements, kindOf, in2Of, convolveMade, diffuseMade, specularMade, morphologyMade, displacementMade, turbulenceMade}
 use Rattle.ranges.specs.Numbers.{kindNumbers}
 use Rattle.ranges.proofs.Children.{MadeAll, AnyRefusal, All, by-tag}
 use Rattle.tree.specs.Input.{Name}

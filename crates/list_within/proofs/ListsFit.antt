@@ -22,7 +22,7 @@ use Rattle.tree.specs.Kinds.{Kind, Blend, ColorMatrix, ComponentTransfer, Compo
 use Rattle.tree.specs.Input as tree
 use Rattle.tree.proofs.Inputs.{inputs-map}
 use Rattle.child.specs.Child.{Child}
-use Rattle.chain.specs.Elements.{kindOf}
+use Rattle.elements.specs.Elements.{kindOf}
 use Rattle.chain.specs.Chain.{kept, chain}
 use Rattle.naming.specs.Names.{Results, start, namesSoFar, after}
 use Rattle.naming.specs.Inputs.{resolve}

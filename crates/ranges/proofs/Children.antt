@@ -21,8 +21,8 @@ use Rattle.subregion.specs.declared.Subregion.the-variants as region
 use Rattle.subregion.specs.Subregions.{regionOf}
 use Rattle.fe.specs.ColorInterpolation.{colorInterpolationOf}
 use Rattle.child.specs.Child.{Child}
-use Rattle.chain.specs.Elements.{Made, made, unsupported, Tagged, _gives_, byTag, kindOf}
-use Rattle.chain.specs.Elements as element
+use Rattle.elements.specs.Elements.{Made, made, unsupported, Tagged, _gives_, byTag, kindOf}
+use Rattle.elements.specs.Elements as element
 use Rattle.chain.specs.Chain as chain
 use Rattle.chain.specs.Chain.{Step, pass, end, count, kindStep, regionStep, stepOf, Chain, kept, put, follow}
 

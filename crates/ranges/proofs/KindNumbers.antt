@@ -59,7 +59,7 @@ use Rattle.fe_turbulence.specs.Ranges.{TurbulenceOk}
 use Rattle.fe_morphology.proofs.Ranges.{morphology-ok}
 use Rattle.fe_displacement_map.proofs.Ranges.{displacement-map-ok}
 use Rattle.fe_turbulence.proofs.Ranges.{turbulence-ok}
-use Rattle.chain.specs.Elements.{Made, made, elements, kindOf, convolveMade, diffuseMade, specularMade, morphologyMade, displacementMade, turbulenceMade}
+use Rattle.elements.specs.Elements.{Made, made, elements, kindOf, convolveMade, diffuseMade, specularMade, morphologyMade, displacementMade, turbulenceMade}
 use Rattle.ranges.specs.Numbers.{kindNumbers, InRange}
 use Rattle.ranges.proofs.Children.{MadeAll, AnyRefusal, All, by-tag}
 

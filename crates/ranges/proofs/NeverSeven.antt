@@ -49,7 +49,7 @@ use Rattle.fe_light.specs.SpecularLighting.{specularLightingOf}
 use Rattle.fe_kernel.specs.ConvolveMatrix.{convolveMatrixOf}
 use Rattle.fe.proofs.Pairs.{pair-holds}
 use Rattle.child.specs.Child.{Child}
-use Rattle.chain.specs.Elements.{Made, elements, kindOf, convolveMade, diffuseMade, specularMade, morphologyMade, displacementMade, turbulenceMade}
+use Rattle.elements.specs.Elements.{Made, elements, kindOf, convolveMade, diffuseMade, specularMade, morphologyMade, displacementMade, turbulenceMade}
 use Rattle.chain.specs.Chain as chain
 use Rattle.ranges.proofs.Children.{MadeAll, by-tag, ChainAll, chain-all}
 use Rattle.num.proofs.Each.{_and_}

@@ -3,7 +3,7 @@ use native.Mathlib.Omega.{arith}
 use denote.Ref.{now}
 use mathlib.Core.Path.{ap, _∙_}
 use Rattle.svgtree.specs.Parse.{nodeFrom}
-use Rattle.chain.specs.Elements.{kindOf}
+use Rattle.elements.specs.Elements.{kindOf}
 use Rattle.chain.specs.Chain.{kindStep}
 use borrow.Author.Needs.{needs}
 use Rattle.chain.proofs.region_step.Statement.{statement}
