@@ -9,7 +9,8 @@ use Rattle.tree.specs.Scalars.{colorBytes, runBytes, numbersBytes}
 use Rattle.tree.specs.Fields.{colorMatrixKindBytes, transferFunctionBytes, componentTransferBytes, gaussianBlurBytes, dropShadowBytes}
 use Rattle.tree.specs.List.{kindBytes}
 use Rattle.functions.specs.Records.{Function, FunctionRecord, grayscale, sepia, saturate, hueRotate, invert, opacity, brightness, contrast, blur, dropShadow, functionBy, codeOf, functionRecord}
-use Rattle.functions.specs.Functions.{grayscaleMatrix, sepiaMatrix, invertTable, opacityTable, kindBy, functionKind}
+use Rattle.function_amounts.specs.Amounts.{grayscaleMatrix, sepiaMatrix, invertTable, opacityTable}
+use Rattle.functions.specs.Functions.{kindBy, functionKind}
 use Rattle.functions.proofs.Codes.{by-shadow}
 
 abbrev pub kindSize : Function → ℕ

@@ -22,10 +22,11 @@ use Rattle.units.proofs.Lengths.{length-single}
 use Rattle.fe.proofs.Numbers.{made-positive}
 use Rattle.fe_flood.proofs.Opacity.{alpha-ok}
 use Rattle.functions.specs.Records.{Record·ColorFlag, Record·Color, Record·Fallback, GivenLength, Function, FunctionRecord, grayscale, sepia, saturate, hueRotate, invert, opacity, brightness, contrast, blur, dropShadow, flaggedColor, givenShadow, ofAmount, functionBy, codeOf, functionRecord}
-use Rattle.functions.specs.Functions.{one64, held, positiveOrZero, grayscaleMatrix, sepiaMatrix, invertTable, opacityTable, asLength, functionState, userLength, colorOr, kindBy, functionKind}
+use Rattle.function_amounts.specs.Amounts.{one64, held, positiveOrZero, grayscaleMatrix, sepiaMatrix, invertTable, opacityTable}
+use Rattle.functions.specs.Functions.{asLength, functionState, userLength, colorOr, kindBy, functionKind}
 use Rattle.functions.specs.Ranges.{FunctionRange, colorMatrix, componentTransfer, gaussianBlur, dropShadow as shadow}
 use Rattle.num.proofs.Each.{_and_}
-use Rattle.functions.proofs.Numbers.{rest-num, grayscale-num, sepia-num, intercept-num}
+use Rattle.function_amounts.proofs.Numbers.{rest-num, grayscale-num, sepia-num, intercept-num}
 
 number-finite : (x : Float) → T (finite (asF32 x))
 number-finite x = orZero-finite (narrowed x)

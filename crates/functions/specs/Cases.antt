@@ -19,7 +19,8 @@ use Rattle.tree.specs.Kinds.{Kind, ColorMatrix, ComponentTransfer, GaussianBlur
 use Rattle.tree.specs.Fields.{colorMatrixKindBytes, transferFunctionBytes, componentTransferBytes, gaussianBlurBytes, dropShadowBytes}
 use Rattle.tree.specs.List.{kindBytes}
 use Rattle.functions.specs.Records.{flaggedColor, ofAmount, functionBy}
-use Rattle.functions.specs.Functions.{held, grayscaleMatrix, sepiaMatrix, positiveOrZero, onColors, onAlpha, invertTable, opacityTable, contrastIntercept, userLength}
+use Rattle.function_amounts.specs.Amounts.{held, grayscaleMatrix, sepiaMatrix, positiveOrZero, invertTable, opacityTable, contrastIntercept}
+use Rattle.functions.specs.Functions.{onColors, onAlpha, userLength}
 use Rattle.functions.specs.Refusals.{sizeBy, shadowOk, argumentsOk, functionLayoutOk, functionNumbersOk, functionRefusal}
 use Rattle.functions.specs.Call.{functionOutcome}
 

@@ -1,12 +1,10 @@
-// The ten shorthand filter functions: the bytes of a function record to those of one kind. `convert_grayscale_function` and its nine siblings are
-// the functions of that name in parser/filter.rs. An f64 argument is given by its bits; a Vec of numbers is an array.
+// The ten shorthand filter functions: the bytes of a function record to those of one kind. `convert_blur_function` and
+// `convert_drop_shadow_function` are the functions of that name in parser/filter.rs; the eight of one amount are in `function_amounts`.
 ghost use mathlib.Core.Path.{_≡_};
 ghost use mathlib.Core.List.{[], _∷_, _++_};
 ghost use Prim.Native.Nat.{_+_, _≤_, _<_};
 ghost use lib.ListN.{length};
-ghost use lib.Ieee.{binary64, ofBits, lt};
 ghost use Rattle.bits.specs.Patch.{Put};
-ghost use Rattle.num.specs.Constants.{plusZero as zero};
 ghost use Rattle.field_tests.specs.Tests.{all, doubleOk};
 ghost use Rattle.tree.specs.Input.{SourceGraphic, inputBytes};
 ghost use Rattle.tree.specs.Kinds as spec;
@@ -14,10 +12,8 @@ ghost use Rattle.tree.specs.Fields.{transferFunctionBytes};
 ghost use Rattle.tree.specs.List.{kindBytes};
 ghost use Rattle.tree.specs.Means.{colorMatrixKindIs, transferFunctionIs};
 ghost use Rattle.tree.specs.Sizes.{colorMatrixKindSize, componentTransferSize};
-ghost use Rattle.tree.specs.declared.TransferFunction.the-variants.{Linear};
 ghost use Rattle.functions.specs.Records.{Record·Argument, givenLengthAt, flaggedColor, givenShadow, functionBy, codeOf, functionRecord};
-ghost use Rattle.functions.specs.Functions.{one64, held, positiveOrZero, grayscaleMatrix, sepiaMatrix, onColors, onAlpha, invertTable, opacityTable, contrastIntercept, functionState, userLength, deviationOf, blurOf, colorOr, functionShadow, functionKind};
-ghost use Rattle.num.specs.Narrowed.{asF32};
+ghost use Rattle.functions.specs.Functions.{onColors, onAlpha, functionState, userLength, deviationOf, blurOf, colorOr, functionShadow, functionKind};
 ghost use Rattle.functions.specs.Refusals.{sizeBy, shadowOk, argumentsOk, functionLayoutOk, functionNumbers, functionNumbersOk, functionRefusal};
 ghost use Rattle.functions.specs.Call.{ConvertedFunction};
 use answer::Answer;
@@ -35,6 +31,15 @@ use field_tests::is_positive_at;
 use field_tests::is_valid_length_at;
 use field_tests::is_view_box_length_at;
 use field_tests::marked_ok;
+use function_amounts::convert_brightness_function;
+use function_amounts::convert_contrast_function;
+use function_amounts::convert_grayscale_function;
+use function_amounts::convert_hue_rotate_function;
+use function_amounts::convert_invert_function;
+use function_amounts::convert_opacity_function;
+use function_amounts::convert_saturate_function;
+use function_amounts::convert_sepia_function;
+use function_amounts::positive_or_zero;
 use geom::Size;
 use list_values::put_color_matrix_kind;
 use list_values::put_component_transfer;
@@ -42,8 +47,6 @@ use list_values::put_drop_shadow;
 use list_values::put_gaussian_blur;
 use list_values::put_values;
 use names::aid;
-use num::double_narrowed;
-use num::is_positive;
 use num::single;
 use sheet_fields::marked;
 use sheet_fields::unit;
@@ -84,142 +87,6 @@ mod field {
     pub const DY: usize = 31;
 
     pub const STD_DEVIATION: usize = 40;
-}
-
-// Amounts.
-
-// A NaN, whose patterns lie above the infinity's, is not above 1.
-fn is_above_one(bits: u64) -> bool
-    ensures { λ r. ⌜ r ≡ lt one64 (ofBits binary64 bits) ⌝ }
-{
-    if bits % 0x8000_0000_0000_0000 <= 0x7ff0_0000_0000_0000 {
-        return 1.0 < f64::from_bits(bits);
-    }
-    false
-}
-
-// The crate's `amount.min(1.0) as f32`: held in f64, narrowed then.
-fn held_at_one(amount: u64) -> f32
-    ensures { λ r. ⌜ r ≡ held (ofBits binary64 amount) ⌝ }
-{
-    if is_above_one(amount) {
-        return double_narrowed(0x3ff0_0000_0000_0000);
-    }
-    double_narrowed(amount)
-}
-
-// The crate's `PositiveF32::new(x).unwrap_or(PositiveF32::ZERO)`.
-fn positive_or_zero(x: f32) -> f32
-    ensures { λ r. ⌜ r ≡ positiveOrZero x ⌝ }
-{
-    if is_positive(x) {
-        return x;
-    }
-    0.0
-}
-
-// Colour matrices.
-
-pub fn convert_grayscale_function(amount: u64) -> [f32; 20]
-    ensures { λ r. ⌜ r ≡ grayscaleMatrix (held (ofBits binary64 amount)) ⌝ }
-{
-    let rest = 1.0 - held_at_one(amount);
-    [
-        0.2126 + 0.7874 * rest,
-        0.7152 - 0.7152 * rest,
-        0.0722 - 0.0722 * rest,
-        0.0,
-        0.0,
-        0.2126 - 0.2126 * rest,
-        0.7152 + 0.2848 * rest,
-        0.0722 - 0.0722 * rest,
-        0.0,
-        0.0,
-        0.2126 - 0.2126 * rest,
-        0.7152 - 0.7152 * rest,
-        0.0722 + 0.9278 * rest,
-        0.0,
-        0.0,
-        0.0,
-        0.0,
-        0.0,
-        1.0,
-        0.0,
-    ]
-}
-
-pub fn convert_sepia_function(amount: u64) -> [f32; 20]
-    ensures { λ r. ⌜ r ≡ sepiaMatrix (held (ofBits binary64 amount)) ⌝ }
-{
-    let rest = 1.0 - held_at_one(amount);
-    [
-        0.393 + 0.607 * rest,
-        0.769 - 0.769 * rest,
-        0.189 - 0.189 * rest,
-        0.0,
-        0.0,
-        0.349 - 0.349 * rest,
-        0.686 + 0.314 * rest,
-        0.168 - 0.168 * rest,
-        0.0,
-        0.0,
-        0.272 - 0.272 * rest,
-        0.534 - 0.534 * rest,
-        0.131 + 0.869 * rest,
-        0.0,
-        0.0,
-        0.0,
-        0.0,
-        0.0,
-        1.0,
-        0.0,
-    ]
-}
-
-pub fn convert_saturate_function(amount: u64) -> f32
-    ensures { λ r. ⌜ r ≡ positiveOrZero (asF32 (ofBits binary64 amount)) ⌝ }
-{
-    positive_or_zero(double_narrowed(amount))
-}
-
-pub fn convert_hue_rotate_function(degrees: u64) -> f32
-    ensures { λ r. ⌜ r ≡ asF32 (ofBits binary64 degrees) ⌝ }
-{
-    double_narrowed(degrees)
-}
-
-// Transfer functions.
-
-pub fn convert_invert_function(amount: u64) -> [f32; 2]
-    ensures { λ r. ⌜ r ≡ invertTable (held (ofBits binary64 amount)) ⌝ }
-{
-    let held = held_at_one(amount);
-    [held, 1.0 - held]
-}
-
-pub fn convert_opacity_function(amount: u64) -> [f32; 2]
-    ensures { λ r. ⌜ r ≡ opacityTable (held (ofBits binary64 amount)) ⌝ }
-{
-    [0.0, held_at_one(amount)]
-}
-
-pub fn convert_brightness_function(amount: u64) -> TransferFunction
-    ensures { λ r. ⌜ r ≡ Linear (asF32 (ofBits binary64 amount)) zero ⌝ }
-{
-    TransferFunction::Linear {
-        slope: double_narrowed(amount),
-        intercept: 0.0,
-    }
-}
-
-pub fn convert_contrast_function(amount: u64) -> TransferFunction
-    ensures { λ r. ⌜ r ≡ Linear (asF32 (ofBits binary64 amount)) (contrastIntercept (asF32 (ofBits binary64 amount))) ⌝ }
-{
-    let slope = double_narrowed(amount);
-    TransferFunction::Linear {
-        slope,
-        intercept: -(0.5 * slope) + 0.5,
-    }
 }
 
 // Lengths and colours of a record.
@@ -534,8 +401,7 @@ fn put_function(s: &[u8], out: &mut [u8]) -> usize
     }
 }
 
-// Any bytes and any output. Ruled out among others: a matrix with the last bit of one coefficient changed, and one with two rows
-// swapped.
+// Any bytes and any output.
 pub fn convert_function(record: &[u8], out: &mut [u8]) -> Answer
     ensures { λ r. ⌜ ConvertedFunction (now («record» .entry)) (now (out .entry)) r (now (out .exit)) ⌝ }
 {

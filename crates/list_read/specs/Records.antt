@@ -12,6 +12,8 @@ use Rattle.bits.specs.Utf8.{utf8}
 use Rattle.tree.specs.Input.{Name, InputOf, SourceGraphic, SourceAlpha, Reference, textBytes, inputBytesWith}
 use Rattle.tree.specs.List.{inputRun}
 use Rattle.list_read.specs.Read.{Got, outside, got, andThen, onlyIf, readByte, readBelow, read16, readMany, readText}
+use Rattle.list_read.specs.declared.ListForm.{ListForm}
+use Rattle.list_read.specs.declared.ListForm.the-variants.{One, Two}
 use Rattle.list_read.specs.Layout.{Arity, exactly, counted, mostInputs, Layout, layoutOf, walkFields, atEnd}
 
 -- a form: the bytes before the count; how a reference is read and written; and which references can be written
@@ -31,6 +33,14 @@ form1 = record { opening = []; readReference = readText; writeReference = textBy
 -- "List form 2 opens with the u16 65,535, .. a reference is the u16 place of the earlier primitive"
 abbrev pub form2 : Form ℕ
 form2 = record { opening = 255 ∷ 255 ∷ []; readReference = read16; writeReference = bytes16; referenceFits = λ n. ltb n 65536 }
+
+abbrev pub ReferenceIn : ListForm → Type 0
+ReferenceIn One = Name
+ReferenceIn Two = ℕ
+
+abbrev pub formOf : (f : ListForm) → Form (ReferenceIn f)
+formOf One = form1
+formOf Two = form2
 
 -- a record: the sixteen bytes of x, y, width and height; the place of its colour interpolation; its name; the place of its kind; the kind's inputs, and
 -- the bytes of its other fields

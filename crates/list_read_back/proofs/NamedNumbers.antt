@@ -22,6 +22,7 @@ use Rattle.tree.specs.Kinds.{Kind, Blend, ColorMatrix, ComponentTransfer, Compo
 use Rattle.tree.specs.declared.LightSource.{LightSource}
 use Rattle.tree.specs.declared.LightSource.the-variants as light
 use Rattle.num.specs.Numbers.{Each}
+use Rattle.num.proofs.Each.{each-front, each-behind}
 use Rattle.fe_light.specs.SpecularLighting.{exponentInRange}
 use Rattle.fe_light.specs.Ranges.{lightNumbers, lightInRange}
 use Rattle.fe_kernel.specs.Ranges.{ConvolveMatrixRange}
@@ -97,14 +98,6 @@ named (Offset a v) w h = refl
 named (SpecularLighting a v) w h = and-both (is-true (exponentInRange (v .«specular_exponent»)) (h .exponent)) (spot (v .«light_source») (h .spot))
 named (Tile a) w h = refl
 named (Turbulence v) w h = refl
-
-each-front : (P : Float → Type 0) (xs ys : List Float) → Each P (xs ++ ys) → Each P xs
-each-front P [] ys h = tt
-each-front P (x ∷ xs) ys h = (h .0, each-front P xs ys (h .1))
-
-each-behind : (P : Float → Type 0) (xs ys : List Float) → Each P (xs ++ ys) → Each P ys
-each-behind P [] ys h = h
-each-behind P (x ∷ xs) ys h = each-behind P xs ys (h .1)
 
 -- the f32 of a record's fields are the numbers of its kind
 field-numbers : (k : Kind tree.Input) → KindWithin k → Each Fits (ranges.kindNumbers k) → map (ofBits binary32) (patternsIn (walkKind (layoutOf (kindPlace k)) (fieldBytes k))) ≡ ranges.kindNumbers k

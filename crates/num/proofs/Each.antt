@@ -19,6 +19,14 @@ pub each-append : {A : Type 0} (P : A → Type 0) (xs ys : List A) → Each P xs
 each-append P [] ys h k = k
 each-append P (x ∷ xs) ys h k = (h .0, each-append P xs ys (h .1) k)
 
+pub each-front : {A : Type 0} (P : A → Type 0) (xs ys : List A) → Each P (xs ++ ys) → Each P xs
+each-front P [] ys h = tt
+each-front P (x ∷ xs) ys h = (h .0, each-front P xs ys (h .1))
+
+pub each-behind : {A : Type 0} (P : A → Type 0) (xs ys : List A) → Each P (xs ++ ys) → Each P ys
+each-behind P [] ys h = h
+each-behind P (x ∷ xs) ys h = each-behind P xs ys (h .1)
+
 -- of each value, from what holds of each
 pub each-of : {A : Type 0} (P Q : A → Type 0) → ((x : A) → P x → Q x) → (xs : List A) → Each P xs → Each Q xs
 each-of P Q f [] h = tt

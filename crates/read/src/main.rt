@@ -8,8 +8,8 @@ use bits::wide8;
 use bits::wide32;
 use libc::STDIN_FILENO;
 use libc::STDOUT_FILENO;
+use list_layout::in_layout;
 use list_read::ListForm;
-use list_read::in_layout;
 
 fn write(text: &[u8]) {
     io::write_all(STDOUT_FILENO, text);

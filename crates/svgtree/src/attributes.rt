@@ -75,10 +75,11 @@ fn find_from(s: &[u8], start: usize, n: u8, id: u16) -> Found
 pub(crate) fn find(s: &[u8], at: u16, id: u16) -> Found
     ensures { λ r. ⌜ foundIs (now (s .entry)) r ≡ lookup id (nodeFrom (now (s .entry)) at .attributes) ⌝ }
 {
+    let at = wide16(at);
     find_from(
         s,
-        wide16(at) + node::ATTRIBUTES,
-        byte(s, wide16(at) + node::ATTRIBUTE_COUNT),
+        at + node::ATTRIBUTES,
+        byte(s, at + node::ATTRIBUTE_COUNT),
         id,
     )
 }

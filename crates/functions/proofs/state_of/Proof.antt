@@ -6,7 +6,7 @@ use Rattle.functions.proofs.state_of.Tie as tie
 
 returns : tie.Need-returns
 unfolding singleOf
-returns c = cc
+returns c = rw (c .single2 .ensures, c .before .get322 .ensures, c .before .before .single .ensures, c .before .before .before .get32 .ensures)
 
 pub state-of-spec : {M : Type 1} → statement M
 state-of-spec =

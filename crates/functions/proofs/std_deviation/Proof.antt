@@ -1,6 +1,6 @@
 -- What the two calls ensure, one after the other. Assumes nothing.
 use mathlib.Core.Path.{ap, _∙_}
-use Rattle.functions.specs.Functions.{positiveOrZero}
+use Rattle.function_amounts.specs.Amounts.{positiveOrZero}
 use borrow.Author.Needs.{needs}
 use Rattle.functions.proofs.std_deviation.Statement.{statement}
 use Rattle.functions.proofs.std_deviation.Tie as tie

@@ -33,7 +33,7 @@ returns c =
     let l = at-loop .loop in
     let counted = at-loop .before .before in
     let s = now (counted .before .before .args .s) in
-    sym (l .inv .3 ∙ touch-step s (l .i) (counted .node-count .result) (l .at) (length s) (omega arith) ∙ simp (ne-eqb (pairOffset s (l .i)) (l .at) (λ q. c .if1 .taken (c .before .wide32 .ensures .0 ∙ at-pair-offset .pair-offset .ensures ∙ q))))
+    sym (l .inv .3 ∙ touch-step s (l .i) (counted .node-count .result) (l .at) (length s) (omega arith) ∙ simp (ne-eqb (pairOffset s (l .i)) (l .at) (λ q. omega (arith, q, c .if1 .taken, c .before .wide32 .ensures .0, at-pair-offset .pair-offset .ensures))))
 
 loop-again : tie.Need-loop-again Inv-loop μ-loop
 loop-again c =
@@ -41,7 +41,7 @@ loop-again c =
     let l = compared .before .before .before .before .loop in
     let counted = compared .before .before .before .before .before .before in
     let s = now (counted .before .before .args .s) in
-    let e : pairOffset s (l .i) ≡ l .at = sym (compared .before .wide32 .ensures .0 ∙ compared .before .before .pair-offset .ensures) ∙ compared .if1 .left in
+    let e : pairOffset s (l .i) ≡ l .at = omega (arith, compared .before .wide32 .ensures .0, compared .before .before .pair-offset .ensures, compared .if1 .left) in
     let q : pairLength s (l .i) ≡ c .wide322 .result = sym (c .wide322 .ensures .0 ∙ c .before .pair-length .ensures) in
     (search needs, search needs, search needs, l .inv .3 ∙ touch-step s (l .i) (counted .node-count .result) (l .at) (length s) (omega arith) ∙ rw (eq-eqb (pairOffset s (l .i)) (l .at) e, q))
 

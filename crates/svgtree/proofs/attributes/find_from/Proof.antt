@@ -20,22 +20,26 @@ returns c =
     let l = head .before .before .loop in
     let a = head .before .before .before .before .args in
     let h = head .head-at .ensures in
-    cc (h .len, h .kind, c .value-place .ensures, lookup-hit (now (a .s)) (a .id) (l .at) (l .left) (omega arith) (sym (h .id) ∙ c .before .if1 .taken))
+    rw (h .len, h .kind, c .value-place .ensures)
+    (sym (l .inv .1 ∙ lookup-hit (now (a .s)) (a .id) (l .at) (l .left) (omega arith) (sym (h .id) ∙ c .before .if1 .taken)))
 
 loop-again : tie.Need-loop-again Inv-loop μ-loop
 loop-again c =
     let head = c .before .before .before in
     let l = head .before .before .loop in
     let a = head .before .before .before .before .args in
-    let h = head .head-at .ensures in
-    (search needs, cc (h .len, c .next-place .ensures, lookup-miss (now (a .s)) (a .id) (l .at) (l .left) (omega arith) (λ e. c .before .if1 .left (h .id ∙ e))))
+    let h = head .head-at .ensures in (
+      search needs,
+      rw (c .next-place .ensures, h .len)
+          (l .inv .1 ∙ lookup-miss (now (a .s)) (a .id) (l .at) (l .left) (omega arith) (λ e. c .before .if1 .left (h .id ∙ e))),
+    )
 
 returns-2 : tie.Need-returns-2 Inv-loop μ-loop
 returns-2 c =
     let l = c .before .loop in
     let a = c .before .before .before .args in
     let z : l .left ≡ 0 = omega arith in
-    cc (lookup-none (now (a .s)) (a .id) (l .at) (l .left) z)
+    sym (l .inv .1 ∙ lookup-none (now (a .s)) (a .id) (l .at) (l .left) z)
 
 pub find-from-spec : {M : Type 1} → statement M
 find-from-spec =

@@ -11,7 +11,8 @@ returns c =
     let at-if1 = c .before .before .before in
     let at-f = at-if1 .before .before in
     let at-find = at-f .before .before in
-    rw (← at-find .find .ensures, at-f .f .given .1, number-yes _ _ _ _ (at-if1 .if1 .taken)) (cc)
+    rw (← at-find .find .ensures, at-f .f .given .1, number-yes _ _ _ _ (at-if1 .if1 .taken))
+    (rw (c .single .ensures, c .before .get32 .ensures, c .before .before .wide32 .ensures .0))
 
 returns-2 : tie.Need-returns-2
 returns-2 c =

@@ -7,7 +7,7 @@ use Rattle.svgtree.proofs.values.length_from.Tie as tie
 
 returns : tie.Need-returns
 unfolding lengthIn doubleOf
-returns c = cc
+returns c = rw (c .double-narrowed .ensures, c .before .get64 .ensures, c .before .before .unit-of .ensures, c .before .before .before .byte .ensures)
 
 pub length-from-spec : {M : Type 1} → statement M
 length-from-spec =

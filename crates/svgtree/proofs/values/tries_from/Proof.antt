@@ -4,7 +4,7 @@ use Rattle.svgtree.proofs.values.tries_from.Statement.{statement}
 use Rattle.svgtree.proofs.values.tries_from.Tie as tie
 
 returns : tie.Need-returns
-returns c = cc
+returns c = rw (c .try-at3 .ensures, c .before .try-at2 .ensures, c .before .before .try-at .ensures)
 
 pub tries-from-spec : {M : Type 1} → statement M
 tries-from-spec =
