@@ -1,23 +1,24 @@
 -- The f32 lists of a sheet's nodes take no more bytes than the sheet has, since node records touch and attributes fill them. Assumes nothing.
 use Prim.Native.Nat.{ℕ, zero, suc, _+_, _*_, _/_, _≤_}
 use native.Mathlib.Omega.{arith}
-use mathlib.Core.Path.{_≡_, refl, ap}
+use mathlib.Core.Path.{_≡_}
 use mathlib.Core.Bool.{Bool, true, false, cond, _&&_}
 use mathlib.Core.List.{List, [], _∷_, map}
 use lib.Dec.{T, eqb}
-use lib.ListN.{length, getD}
+use lib.ListN.{length}
 use lib.Ieee.Fits.{and-l, and-r}
 use lib.Ieee.Bits.{is-true}
 use borrow.Author.Tests.{eqb-true}
-use Rattle.bits.specs.Bytes.{le16}
 use Rattle.bits.proofs.Runs.{length-bytesFrom}
-use Rattle.sheet_fields.specs.Fields.{Kind·Text, Kind·Number, Kind·Numbers, Kind·Length, Kind·Color, Kind·Tries}
+use Rattle.sheet_fields.specs.Fields.{Kind·Text, Kind·Number, Kind·Numbers, Kind·Length, Kind·Color, Kind·Tries, Size·Number}
 use Rattle.svgtree.specs.Values.{Value, absent, textValue, numberValue, numbersValue, lengthValue, colorValue, triesValue, Attribute, Node}
-use Rattle.svgtree.specs.Parse.{single, singlesFrom, lengthAt, colorAt, triedAt, valueAt, attributeAt, placesOf, nodeFrom, countOf, offsetOf, nodeAt, nodesFrom}
-use Rattle.sheet_layout.specs.Tests.{rising, sum}
+use Rattle.svgtree.specs.Parse.{single, singlesFrom, lengthAt, colorAt, triedAt, valueAt, attributeKind, attributeLength, valuePlace, attributeAt, placesOf, nodeFrom, countOf, pairPlace, offsetOf, nodeAt, nodesFrom}
+use Rattle.sheet_layout.specs.Tests.{sum}
 use Rattle.field_tests.specs.Tests.{all}
-use Rattle.sheet_layout.specs.Records.{Entry, entryAt, entrySize, NodeRecord, recordAt, recordsFrom}
-use Rattle.sheet_layout.specs.Layout.{entryOk, entriesOk, headOk, recordOk, headerOk, touch, depthsOk, layoutOk}
+use Rattle.sheet_layout.specs.Records.{entryAt, entrySize, NodeRecord, recordAt, recordsFrom}
+use Rattle.sheet_layout.specs.Layout.{recordOk, headerOk, touch, depthsOk, layoutOk}
+use Rattle.sheet_layout.proofs.Offsets.{record-filled, records-ok}
+use Rattle.sheet_accepted.proofs.Layouts.{singles-length}
 
 -- four bytes for each number of an f32 list
 abbrev pub valueNumbers : Value → ℕ
@@ -42,18 +43,13 @@ nodesNumbers (n ∷ ns) = nodeNumbers n + nodesNumbers ns
 
 -- ---- a value, and the attributes of a node
 
-singles-length : (s : List ℕ) (at n : ℕ) → length (singlesFrom s at n) ≡ n
-unfolding singlesFrom
-singles-length s at zero = refl
-singles-length s at (suc n) = ap suc (singles-length s (at + 4) n)
-
 module _ (s : List ℕ) where
   -- whichever kind a value has
   by-kind : (at len : ℕ) (text : List ℕ) (t n ns l c tr : Bool)
-      → valueNumbers (cond t (textValue text) (cond n (numberValue (single s at)) (cond ns (numbersValue (singlesFrom s at (len / 4))) (cond l (lengthAt s at) (cond c (colorValue (colorAt s at)) (cond tr (triesValue (triedAt s at)) absent)))))) ≤ len
+      → valueNumbers (cond t (textValue text) (cond n (numberValue (single s at)) (cond ns (numbersValue (singlesFrom s at (len / Size·Number))) (cond l (lengthAt s at) (cond c (colorValue (colorAt s at)) (cond tr (triesValue (triedAt s at)) absent)))))) ≤ len
   by-kind at len text true n ns l c tr = omega arith
   by-kind at len text false true ns l c tr = omega arith
-  by-kind at len text false false true l c tr = omega (arith, singles-length s at (len / 4))
+  by-kind at len text false false true l c tr = omega (arith, singles-length s at (len / Size·Number))
   by-kind at len text false false false true c tr = omega arith
   by-kind at len text false false false false true tr = omega arith
   by-kind at len text false false false false false true = omega arith
@@ -65,7 +61,8 @@ module _ (s : List ℕ) where
 
   attribute-long : (at : ℕ) → valueNumbers (attributeAt s at .value) ≤ entrySize (entryAt s at)
   unfolding attributeAt entryAt
-  attribute-long at = omega (arith, value-long (getD s (at + 2) 0) (at + 6) (le16 s (at + 4)), length-bytesFrom s (at + 6) (le16 s (at + 4)))
+  attribute-long at =
+      omega (arith, value-long (attributeKind s at) (valuePlace at) (attributeLength s at), length-bytesFrom s (valuePlace at) (attributeLength s at))
 
   attributes-long : (ps : List ℕ) → attributesNumbers (map (attributeAt s) ps) ≤ sum (map entrySize (map (entryAt s) ps))
   unfolding sum
@@ -74,18 +71,9 @@ module _ (s : List ℕ) where
 
   -- ---- a node: its attributes fill its record
 
-  entries-fill : (depth size : ℕ) (es : List Entry) → T (entriesOk depth size es) → 8 + sum (map entrySize es) ≡ size
-  unfolding entriesOk
-  entries-fill depth size es h =
-      eqb-true (8 + sum (map entrySize es)) size
-      (is-true (eqb (8 + sum (map entrySize es)) size) (and-r (all (entryOk depth) es && rising (map (λ (e : Entry). e .id) es)) (eqb (8 + sum (map entrySize es)) size) h))
-
   node-long : (i : ℕ) → T (recordOk (recordAt s i)) → nodeNumbers (nodeAt s i) ≤ recordAt s i .size
-  unfolding recordOk recordAt nodeFrom
-  node-long i h =
-      let r = recordAt s i in
-      let e : 8 + sum (map entrySize (r .entries)) ≡ r .size = entries-fill (r .depth) (r .size) (r .entries) (and-r (headOk (r .depth) (r .tag) (r .count) (r .zero)) (entriesOk (r .depth) (r .size) (r .entries)) h) in
-      omega (arith, attributes-long (placesOf s (offsetOf s i)), e)
+  unfolding recordAt nodeFrom
+  node-long i h = omega (arith, attributes-long (placesOf s (offsetOf s i)), record-filled (recordAt s i) h)
 
   -- ---- the nodes: their records touch, and the last ends the sheet
 
@@ -110,8 +98,6 @@ module _ (s : List ℕ) where
   unfolding layoutOk
   numbers-fit h =
       let rs = recordsFrom s 0 (countOf s) in
-      let front = touch (74 + 8 * countOf s) (length s) rs in
-      let records = and-l (headerOk s && front && all recordOk rs) (depthsOk false rs) h in
-      let ok = and-r (headerOk s && front) (all recordOk rs) records in
-      let touching = and-r (headerOk s) front (and-l (headerOk s && front) (all recordOk rs) records) in
-      omega (arith, nodes-long 0 (countOf s) ok, records-end (74 + 8 * countOf s) (length s) rs touching)
+      let front = touch (pairPlace (countOf s)) (length s) rs in
+      let touching = and-r (headerOk s) front (and-l (headerOk s && front) (all recordOk rs) (and-l (headerOk s && front && all recordOk rs) (depthsOk false rs) h)) in
+      omega (arith, nodes-long 0 (countOf s) (records-ok s h), records-end (pairPlace (countOf s)) (length s) rs touching)

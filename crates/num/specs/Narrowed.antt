@@ -21,7 +21,8 @@ pick false a b = b
 unfoldable pub numberOf : Float → Number
 numberOf x = pick (finite x) (Finite x) Not
 
--- a number that is read; +0 for one that is not finite. A sheet with such a number is refused (number 3), so that zero is never used for a list
+-- a number that is read; +0 for one that is not finite. A sheet with such a number is refused (number 3): of every other each number is read as it is
+-- given (theorem `read-as-given` of `sheet_accepted`)
 unfoldable pub orZero : Float → Float
 orZero x = cond (finite x) x plusZero
 

@@ -1,5 +1,5 @@
--- No child is refused with 7: a number that is not finite is read as +0, since refusal 3 has turned its sheet away, so a base frequency whose sign is
--- clear is finite and not below zero. Assumes nothing.
+-- No child is refused with 7: every number that is read is finite, so a base frequency whose sign is clear is not below zero. This holds of any nodes,
+-- since a number that is not finite is read as +0; of an accepted sheet that +0 is never read (`read-as-given` of `sheet_accepted`). Assumes nothing.
 use Prim.Native.Nat.{ℕ}
 use native.Mathlib.Omega.{arith}
 use mathlib.Core.Path.{_≡_, refl, subst}

@@ -1,8 +1,8 @@
 -- The nodes of an accepted sheet are accepted nodes, and so are the nodes behind one of them and its children. Assumes nothing.
-use Prim.Native.Nat.{ℕ, zero, suc, _+_, _*_, _≤_, _<_}
+use Prim.Native.Nat.{ℕ, zero, suc, _+_, _≤_, _<_}
 use native.Mathlib.Omega.{arith}
 use mathlib.Core.Path.{_≡_, refl, sym, ap, subst}
-use mathlib.Core.Bool.{Bool, true, false, not, cond, _&&_, _||_}
+use mathlib.Core.Bool.{Bool, true, false, not, cond, _||_}
 use mathlib.Core.List.{List, [], _∷_}
 use lib.Dec.{T, ltb, eqb}
 use lib.ListN.{length, getD}
@@ -10,12 +10,14 @@ use lib.Ieee.Fits.{and-l, and-r}
 use borrow.Author.Tests.{ltb-false}
 use Rattle.answer.specs.declared.Checked.the-variants as checked
 use Rattle.answer.specs.declared.Refusal.the-variants.{TooLarge, Malformed, BadNumber, Image}
+use Rattle.sheet_fields.specs.Fields.{Header·Pairs}
 use Rattle.svgtree.specs.Values.{Node}
 use Rattle.svgtree.specs.Readers.{childNodes}
 use Rattle.svgtree.specs.Parse.{countOf, nodeAt, nodesFrom, headerOf, sheetOf}
 use Rattle.field_tests.specs.Tests.{all}
 use Rattle.sheet_layout.specs.Records.{recordAt, recordsFrom}
-use Rattle.sheet_layout.specs.Layout.{recordOk, headerOk, touch, depthsOk, layoutOk}
+use Rattle.sheet_layout.specs.Layout.{recordOk, layoutOk}
+use Rattle.sheet_layout.proofs.Offsets.{records-ok}
 use Rattle.sheet_check.specs.Numbers.{nodeNumbersOk, headerNumbersOk, numbersOk}
 use Rattle.sheet_check.specs.Refusals.{noImage, tooLarge, firstRefusal}
 use Rattle.sheet_accepted.specs.Nodes.{EachAccepted, AcceptedNodes}
@@ -31,7 +33,7 @@ pub record Passed (s : List ℕ) : Type 0 where
 
 pub passed : (s : List ℕ) → firstRefusal s ≡ checked.Passed → Passed s
 unfolding firstRefusal
-passed s h = go (ltb (length s) 74) (tooLarge s) (layoutOk s) (numbersOk (sheetOf s)) (noImage (sheetOf s)) refl refl refl h
+passed s h = go (ltb (length s) Header·Pairs) (tooLarge s) (layoutOk s) (numbersOk (sheetOf s)) (noImage (sheetOf s)) refl refl refl h
   where
     go : (a b c d e : Bool) → tooLarge s ≡ b → layoutOk s ≡ c → numbersOk (sheetOf s) ≡ d
         → cond a (checked.Refused Malformed)
@@ -58,13 +60,6 @@ module _ (s : List ℕ) (h : firstRefusal s ≡ checked.Passed) where
   pub few-nodes : countOf s ≤ 512
   unfolding tooLarge
   few-nodes = ltb-false 512 (countOf s) (neither (ltb 65536 (length s)) (ltb 512 (countOf s)) (passed s h .small) .1)
-
-records-passed : (s : List ℕ) → T (layoutOk s) → T (all recordOk (recordsFrom s 0 (countOf s)))
-unfolding layoutOk
-records-passed s h =
-    let rs = recordsFrom s 0 (countOf s) in
-    let front = headerOk s && touch (74 + 8 * countOf s) (length s) rs in
-    and-r front (all recordOk rs) (and-l (front && all recordOk rs) (depthsOk false rs) h)
 
 nodes-passed : (s : List ℕ) → T (numbersOk (sheetOf s)) → T (all nodeNumbersOk (nodesFrom s 0 (countOf s)))
 unfolding numbersOk sheetOf
@@ -97,7 +92,7 @@ module _ (s : List ℕ) (bytes : (i : ℕ) → getD s i 0 < 256) where
       let p = passed s h in
       record {
         few = subst (λ (n : ℕ). n ≤ 512) (sym (nodes-length s 0 (countOf s))) (few-nodes s h);
-        each = each-accepted 0 (countOf s) (records-passed s (p .layout)) (nodes-passed s (p .numbers));
+        each = each-accepted 0 (countOf s) (records-ok s (p .layout)) (nodes-passed s (p .numbers));
       }
 
 -- ---- the nodes behind a node, and its children, which are the first of these

@@ -1,3 +1,9 @@
+pub mod ByKind
 pub mod Layouts
 pub mod Opacities
 pub mod Accepted
+pub mod Whole
+pub mod Behind
+pub mod End
+pub mod Numbers
+pub mod Given

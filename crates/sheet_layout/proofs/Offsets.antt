@@ -1,16 +1,16 @@
--- In the layout a pair's offset is its node's place: records touch and each has eight bytes or more, so an offset lies below the sheet's end, and two bytes
--- hold it. Assumes nothing.
+-- In the layout a node's record lies within the sheet, since records touch and the last one ends it. So an offset, with eight bytes of its node behind it, is
+-- below the sheet's end, and two bytes hold it. Assumes nothing.
 use Prim.Native.Nat.{ℕ, zero, suc, _+_, _≤_, _<_}
 use native.Mathlib.Nat.{add-zero}
 use native.Mathlib.Omega.{arith}
 use mathlib.Core.Path.{_≡_, subst}
-use mathlib.Core.Bool.{false, _&&_}
+use mathlib.Core.Bool.{Bool, false, _&&_}
 use mathlib.Core.List.{List, [], _∷_, map}
 use lib.Dec.{T, eqb, eqb→eq}
 use lib.ListN.{length}
 use lib.Ieee.Fits.{and-l, and-r}
 use Rattle.sheet_fields.specs.Fields.{Node·Attributes}
-use Rattle.svgtree.specs.Parse.{countOf, pairPlace, pairOffset, offsetOf}
+use Rattle.svgtree.specs.Parse.{countOf, pairPlace, pairOffset, pairLength, offsetOf}
 use Rattle.sheet_layout.specs.Tests.{rising, sum}
 use Rattle.field_tests.specs.Tests.{all}
 use Rattle.sheet_layout.specs.Records.{Entry, entrySize, NodeRecord, recordAt, recordsFrom}
@@ -24,27 +24,39 @@ touch-under at end (r ∷ rest) h =
     let k : at + r .size ≤ end = touch-under (at + r .size) end rest (and-r (eqb (r .offset) at) (touch (at + r .size) end rest) h) in
     omega arith
 
-record-size : (r : NodeRecord) → T (recordOk r) → Node·Attributes ≤ r .size
-unfolding recordOk entriesOk
-record-size r h =
-    let entries = and-r (headOk (r .depth) (r .tag) (r .count) (r .zero)) (entriesOk (r .depth) (r .size) (r .entries)) h in
-    let first = all (entryOk (r .depth)) (r .entries) && rising (map (λ (e : Entry). e .id) (r .entries)) in
-    let e : Node·Attributes + sum (map entrySize (r .entries)) ≡ r .size
-    = eqb→eq (Node·Attributes + sum (map entrySize (r .entries))) (r .size) (and-r first (eqb (Node·Attributes + sum (map entrySize (r .entries))) (r .size)) entries) in
-    omega arith
+-- a record's attributes are in the layout, and fill it
+module _ (r : NodeRecord) (h : T (recordOk r)) where
+  abbrev sizeOk : Bool
+  sizeOk = eqb (Node·Attributes + sum (map entrySize (r .entries))) (r .size)
 
--- an offset and eight bytes lie within the sheet
-within : (s : List ℕ) (end i n at k : ℕ) → T (touch at end (recordsFrom s i n)) → T (all recordOk (recordsFrom s i n)) → k < n
-    → pairOffset s (i + k) + Node·Attributes ≤ end
-unfolding recordsFrom recordAt touch all
+  abbrev risen : Bool
+  risen = rising (map (λ (e : Entry). e .id) (r .entries))
+
+  pub record-entries : T (all (entryOk (r .depth)) (r .entries))
+  unfolding recordOk entriesOk
+  record-entries =
+      let ok = all (entryOk (r .depth)) (r .entries) in
+      and-l ok risen (and-l (ok && risen) sizeOk (and-r (headOk (r .depth) (r .tag) (r .count) (r .zero)) (entriesOk (r .depth) (r .size) (r .entries)) h))
+
+  pub record-filled : Node·Attributes + sum (map entrySize (r .entries)) ≡ r .size
+  unfolding recordOk entriesOk
+  record-filled =
+      eqb→eq (Node·Attributes + sum (map entrySize (r .entries))) (r .size)
+      (and-r (all (entryOk (r .depth)) (r .entries) && risen) sizeOk (and-r (headOk (r .depth) (r .tag) (r .count) (r .zero)) (entriesOk (r .depth) (r .size) (r .entries)) h))
+
+-- a node's record is in the layout, and ends where the sheet ends or before
+abbrev Within : List ℕ → ℕ → ℕ → Type 0
+Within s end i = T (recordOk (recordAt s i)) × (pairOffset s i + pairLength s i ≤ end)
+
+within : (s : List ℕ) (end i n at k : ℕ) → T (touch at end (recordsFrom s i n)) → T (all recordOk (recordsFrom s i n)) → k < n → Within s end (i + k)
+unfolding recordsFrom touch all recordAt
 within s end i zero at k t o h = absurd (omega arith)
 within s end i (suc n) at zero t o h =
     let r = recordAt s i in
     let rest = recordsFrom s (i + 1) n in
     let place : pairOffset s i ≡ at = eqb→eq (pairOffset s i) at (and-l (eqb (r .offset) at) (touch (at + r .size) end rest) t) in
     let under : at + r .size ≤ end = touch-under (at + r .size) end rest (and-r (eqb (r .offset) at) (touch (at + r .size) end rest) t) in
-    let long : Node·Attributes ≤ r .size = record-size r (and-l (recordOk r) (all recordOk rest) o) in
-    rw (add-zero i) (omega (arith, place, under, long))
+    rw (add-zero i) (and-l (recordOk r) (all recordOk rest) o, omega (arith, place, under))
 within s end i (suc n) at (suc k) t o h =
     let r = recordAt s i in
     let rest = recordsFrom s (i + 1) n in
@@ -55,15 +67,34 @@ within s end i (suc n) at (suc k) t o h =
     (and-r (recordOk r) (all recordOk rest) o)
     (omega arith))
 
-pub offset-exact : (s : List ℕ) → T (layoutOk s) → length s ≤ 65536 → (i : ℕ) → i < countOf s → offsetOf s i ≡ pairOffset s i
-unfolding layoutOk
-offset-exact s h long i l =
-    let rs = recordsFrom s 0 (countOf s) in
-    let touches = touch (pairPlace (countOf s)) (length s) rs in
-    let three = and-l (headerOk s && touches && all recordOk rs) (depthsOk false rs) h in
-    let two = and-l (headerOk s && touches) (all recordOk rs) three in
-    let u : pairOffset s (0 + i) + Node·Attributes ≤ length s
-    = within s (length s) 0 (countOf s) (pairPlace (countOf s)) i (and-r (headerOk s) touches two) (and-r (headerOk s && touches) (all recordOk rs) three) l in
-    let z : 0 + i ≡ i = omega arith in
-    let v : pairOffset s i + Node·Attributes ≤ length s = subst (λ (k : ℕ). pairOffset s k + Node·Attributes ≤ length s) z u in
-    omega (arith, v, long)
+module _ (s : List ℕ) (h : T (layoutOk s)) where
+  abbrev records : List NodeRecord
+  records = recordsFrom s 0 (countOf s)
+
+  abbrev touches : Bool
+  touches = touch (pairPlace (countOf s)) (length s) records
+
+  touched : T touches
+  unfolding layoutOk
+  touched = and-r (headerOk s) touches (and-l (headerOk s && touches) (all recordOk records) (and-l (headerOk s && touches && all recordOk records) (depthsOk false records) h))
+
+  pub records-ok : T (all recordOk records)
+  unfolding layoutOk
+  records-ok = and-r (headerOk s && touches) (all recordOk records) (and-l (headerOk s && touches && all recordOk records) (depthsOk false records) h)
+
+  -- the pairs lie within the sheet, and so does the record of each node
+  pub pairs-within : pairPlace (countOf s) ≤ length s
+  pairs-within = touch-under (pairPlace (countOf s)) (length s) records touched
+
+  module _ (i : ℕ) (l : i < countOf s) where
+    pub record-within : Within s (length s) i
+    record-within =
+        let z : 0 + i ≡ i = omega arith in
+        subst (Within s (length s)) z (within s (length s) 0 (countOf s) (pairPlace (countOf s)) i touched records-ok l)
+
+    pub offset-exact : length s ≤ 65536 → offsetOf s i ≡ pairOffset s i
+    unfolding recordAt
+    offset-exact long =
+        let inside : pairOffset s i + pairLength s i ≤ length s = record-within .1 in
+        let filled : Node·Attributes + sum (map entrySize (recordAt s i .entries)) ≡ pairLength s i = record-filled (recordAt s i) (record-within .0) in
+        omega arith
