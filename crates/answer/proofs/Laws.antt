@@ -1,4 +1,4 @@
--- Laws of outcomes: no refusal has the number 0, a refusal leaves the output, and what is given at a number 0. Assumes nothing.
+-- Laws of outcomes: no refusal has the number 0, a refusal leaves the output, and what is given stands at its front where there is room. Assumes nothing.
 use Prim.Native.Nat.{ℕ, _≤_, _<_}
 use mathlib.Core.Path.{_≡_, refl, sym, subst}
 use mathlib.Core.List.{List, _++_}
@@ -6,7 +6,7 @@ use native.Mathlib.Omega.{arith}
 use borrow.Author.Tests.{le-leb, lt-leb}
 use lib.ListN.{length, drop}
 use Rattle.answer.specs.Refusals.{refusalNumber}
-use Rattle.answer.specs.Outcomes.{Outcome, refused, given, inRoom, numberOf, Answers}
+use Rattle.answer.specs.Outcomes.{Outcome, refused, given, inRoom, Answers}
 use Rattle.answer.specs.declared.Refusal.{Refusal}
 use Rattle.answer.specs.declared.Refusal.the-variants.{TooLarge, Malformed, BadNumber, Image, NoRegion, Unrepresentable, BadFrequency, NoPrimitive, ShortOutput}
 use Rattle.answer.specs.declared.Answer.{Answer}
@@ -21,15 +21,6 @@ never-zero Unrepresentable e = omega arith
 never-zero BadFrequency e = omega arith
 never-zero NoPrimitive e = omega arith
 never-zero ShortOutput e = omega arith
-
--- a number 0 comes with something given
-pub record Given {A : Type 0} (x : Outcome A) : Type 0 where
-  pub value : A
-  pub is : x ≡ given value
-
-pub given-at-zero : {A : Type 0} (x : Outcome A) → numberOf x ≡ 0 → Given x
-given-at-zero (refused r) e = absurd (never-zero r e)
-given-at-zero (given v) e = record { value = v; is = refl }
 
 module _ {A : Type 0} (bytes : A → List ℕ) (o : List ℕ) (r : Answer) where
   -- the same outcome, said otherwise

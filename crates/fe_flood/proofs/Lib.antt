@@ -1,4 +1,3 @@
 -- the laws that belong to no one function
 pub mod Opacity
-pub mod Alpha
 pub mod Ranges

@@ -14,7 +14,7 @@ use Rattle.geom.proofs.Gaps.{gap-above}
 use Rattle.geom.specs.declared.Rect.{Rect}
 use Rattle.geom.specs.declared.MaybeRect.{MaybeRect}
 use Rattle.geom.specs.declared.MaybeRect.the-variants.{Is, No}
-use Rattle.geom.specs.Geometry.{zero, largest, side, pick, isRect, ofEdges, ofSize, placed, widthOf, heightOf, validLength, viewBoxLength}
+use Rattle.geom.specs.Geometry.{zero, largest, side, pick, isRect, ofEdges, ofSize, placed, widthOf, heightOf}
 
 -- ---- a rectangle that was made exists
 -- what an arm that binds q may say of it
@@ -135,12 +135,3 @@ width-above r t f = let s = across r t in gap-above (r .right) (r .left) (f .fit
 
 pub height-above : (r : Rect) → T (isRect r) → EdgesFit r → lt zero (heightOf r) ≡ true
 height-above r t f = let s = along r t in gap-above (r .bottom) (r .top) (f .fits-bottom) (f .fits-top) (s .far) (s .near) (s .ordered)
-
--- ---- the lengths of a view box, and a length that `is_valid_length` lets pass
-pub length-number : (x : Float) → T (validLength x) → Number x × (lt zero x ≡ true)
-unfolding validLength
-length-number x t = (known x (and-r (lt zero x) (finite x) t), is-true (lt zero x) (and-l (lt zero x) (finite x) t))
-
-pub view-box-number : (x : Float) → T (viewBoxLength x) → Number x × (lt zero x ≡ true)
-unfolding viewBoxLength validLength
-view-box-number x t = length-number x (and-l (lt zero x && finite x) (lt x largest) t)

@@ -171,9 +171,6 @@ four f a b c d na nb nc nd ha hb hc hd =
     (cons-walk f (f ∷ f ∷ []) b (c ++ d) nb (nc ++ nd) (hb (c ++ d)) (cons-walk f (f ∷ []) c d nc nd (hc d) (alone f d nd hd)))
     ∙ ap (λ (l : List ℕ). got l []) n
 
-light-end : (l : LightSource) → walkField lightSource (lightSourceBytes l) ≡ got (map patternOf (lightNumbers l)) []
-light-end l = ap (walkField lightSource) (sym (append-nil (lightSourceBytes l))) ∙ light-walk l []
-
 floats2 : (x y : Float) (r : List ℕ) → walkField (item (f32s 2)) ((bytesF x ++ bytesF y) ++ r) ≡ got (patternOf x ∷ patternOf y ∷ []) r
 unfolding walkField walkItem readMany read32 bytes32
 floats2 x y r = refl

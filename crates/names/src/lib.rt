@@ -23,10 +23,7 @@ fn kind_on_child(id: u16) -> u8
         | aid::X_CHANNEL_SELECTOR
         | aid::Y_CHANNEL_SELECTOR
         | aid::STITCH_TILES => kind::TEXT,
-        aid::K1
-        | aid::K2
-        | aid::K3
-        | aid::K4
+        aid::K1..=aid::K4
         | aid::DIVISOR
         | aid::BIAS
         | aid::TARGET_X

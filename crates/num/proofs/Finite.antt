@@ -1,5 +1,5 @@
 -- Which bits are a finite number's, and what `single` and `double_narrowed` read. Assumes nothing.
-use mathlib.Core.Path.{_≡_, refl, sym, ap, _∙_, subst}
+use mathlib.Core.Path.{_≡_, sym, ap, _∙_, subst}
 use Prim.Native.Nat.{ℕ, _*_, _%_, _<_, _≤_}
 use mathlib.Core.Bool.{Bool, true, false, not, cond}
 use lib.Dec.{T}
@@ -70,39 +70,8 @@ orZero-finite nan = tt
 orZero-finite (inf s) = tt
 orZero-finite (fin s m e) = tt
 
-pub orZero-is : (x : Float) → T (finite x) → orZero x ≡ x
-unfolding orZero
-orZero-is nan h = absurd h
-orZero-is (inf s) h = absurd h
-orZero-is (fin s m e) h = refl
-
 pub orZero-fits : (x : Float) → T (fits binary32 x) → T (fits binary32 (orZero x))
 unfolding orZero
 orZero-fits nan h = ofBits-fits binary32 0
 orZero-fits (inf s) h = ofBits-fits binary32 0
 orZero-fits (fin s m e) h = h
-
-pub single-finite : (b : ℕ) → T (finite (singleOf b))
-unfolding singleOf
-single-finite b = orZero-finite (ofBits binary32 b)
-
-pub double-finite : (b : ℕ) → T (finite (doubleOf b))
-unfolding doubleOf
-double-finite b = orZero-finite (narrowed (ofBits binary64 b))
-
-pub single-fits : (b : ℕ) → T (fits binary32 (singleOf b))
-unfolding singleOf
-single-fits b = orZero-fits (ofBits binary32 b) (ofBits-fits binary32 b)
-
-pub double-fits : (b : ℕ) → T (fits binary32 (doubleOf b))
-unfolding doubleOf
-double-fits b = orZero-fits (narrowed (ofBits binary64 b)) (narrowed-fits (ofBits binary64 b))
-
--- where the pattern is finite it is the number
-pub single-is : (b : ℕ) → T (finite (ofBits binary32 b)) → singleOf b ≡ ofBits binary32 b
-unfolding singleOf
-single-is b h = orZero-is (ofBits binary32 b) h
-
-pub double-is : (b : ℕ) → T (finite (narrowed (ofBits binary64 b))) → doubleOf b ≡ narrowed (ofBits binary64 b)
-unfolding doubleOf
-double-is b h = orZero-is (narrowed (ofBits binary64 b)) h

@@ -139,17 +139,6 @@ round-plus f a c =
     let u = c * 2 ^ k in
     subst (λ (x : Float). T (plus x)) (sym (round-is f false a c)) (units-plus f (nearest (n / u) (compare (n % u * 2) u)) k)
 
--- a product of two such numbers that are finite is one
-pub mul-plus : (f : Format) (x y : Float) → T (finite x) → T (finite y) → T (plus x) → T (plus y) → T (plus (mul f x y))
-unfolding mul
-mul-plus f nan y h k p q = absurd h
-mul-plus f (inf s) y h k p q = absurd h
-mul-plus f (fin true m e) y h k p q = absurd p
-mul-plus f (fin false m e) nan h k p q = absurd k
-mul-plus f (fin false m e) (inf t) h k p q = absurd k
-mul-plus f (fin false m e) (fin true n d) h k p q = absurd q
-mul-plus f (fin false m e) (fin false n d) h k p q = round-plus f (m * up e * (n * up d)) (down e * down d)
-
 pub by-le : (a b : ℕ) → (a ≤ b) ⊎ (b < a)
 by-le a b = go (leb a b) (leb→le a b) (nleb→lt a b)
   where

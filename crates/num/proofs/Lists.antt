@@ -1,18 +1,14 @@
--- The numbers of a list in bytes: how many, which, and that each is finite. Assumes nothing.
+-- The numbers of a list in bytes: how many, and which. Assumes nothing.
 use mathlib.Core.Path.{_≡_, refl, sym, ap, _∙_}
 use mathlib.Core.List.{List}
 use Prim.Native.Nat.{ℕ, zero, suc, _+_, _*_, _≤_, _<_}
 use native.Mathlib.Nat.{add-zero, le-of-suc-le-suc}
 use native.Mathlib.Omega.{arith}
-use lib.Dec.{T}
 use lib.ListN.{length, getD}
 use lib.Ieee.{Float}
-use lib.Ieee.Scale.{finite}
 use Rattle.bits.specs.Bytes.{le32}
-use Rattle.num.specs.Constants.{plusZero}
 use Rattle.num.specs.Narrowed.{singleOf}
 use Rattle.num.specs.Lists.{numbersFrom}
-use Rattle.num.proofs.Finite.{zero-finite, single-finite}
 
 pub numbers-length : (s : List ℕ) (at n : ℕ) → length (numbersFrom s at n) ≡ n
 unfolding numbersFrom
@@ -40,10 +36,3 @@ numbers-past s at (suc n) zero d h = absurd (no n h)
     no : (n : ℕ) → suc n ≤ 0 → ⊥
     no n h = omega arith
 numbers-past s at (suc n) (suc i) d h = numbers-past s (at + 4) n i d (le-of-suc-le-suc h)
-
--- whatever the bytes, and past the end
-pub numbers-finite : (s : List ℕ) (at n i : ℕ) → T (finite (getD (numbersFrom s at n) i plusZero))
-unfolding numbersFrom
-numbers-finite s at zero i = zero-finite
-numbers-finite s at (suc n) zero = single-finite (le32 s at)
-numbers-finite s at (suc n) (suc i) = numbers-finite s (at + 4) n i
