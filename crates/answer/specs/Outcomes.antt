@@ -27,21 +27,21 @@ unfoldable pub inRoom : {A : Type 0} → (A → List ℕ) → (room : ℕ) → A
 inRoom bytes room x = cond (leb (length (bytes x)) room) (given x) (refused ShortOutput)
 
 -- 0 where something is given
-abbrev pub numberOf : {A : Type 0} → Outcome A → ℕ
-numberOf (refused r) = refusalNumber r
-numberOf (given x) = 0
+abbrev pub outcomeNumber : {A : Type 0} → Outcome A → ℕ
+outcomeNumber (refused r) = refusalNumber r
+outcomeNumber (given x) = 0
 
-abbrev pub lengthOf : {A : Type 0} → (A → List ℕ) → Outcome A → ℕ
-lengthOf bytes (refused r) = 0
-lengthOf bytes (given x) = length (bytes x)
+abbrev pub outcomeLength : {A : Type 0} → (A → List ℕ) → Outcome A → ℕ
+outcomeLength bytes (refused r) = 0
+outcomeLength bytes (given x) = length (bytes x)
 
 -- the output, which was o: a refusal leaves it; else the bytes of what is given stand at its front, and the rest is as it was
-abbrev pub outputOf : {A : Type 0} → (A → List ℕ) → Outcome A → (o : List ℕ) → List ℕ
-outputOf bytes (refused r) o = o
-outputOf bytes (given x) o = bytes x ++ drop (length (bytes x)) o
+abbrev pub outcomeOutput : {A : Type 0} → (A → List ℕ) → Outcome A → (o : List ℕ) → List ℕ
+outcomeOutput bytes (refused r) o = o
+outcomeOutput bytes (given x) o = bytes x ++ drop (length (bytes x)) o
 
 -- what a call answered, and what it left in the output, are this outcome's
 pub record Answers {A : Type 0} (bytes : A → List ℕ) (x : Outcome A) (o : List ℕ) (r : Answer) (o′ : List ℕ) : Type 0 where
-  pub number : r .number ≡ numberOf x
-  pub length : r .length ≡ lengthOf bytes x
-  pub output : o′ ≡ outputOf bytes x o
+  pub number : r .number ≡ outcomeNumber x
+  pub length : r .length ≡ outcomeLength bytes x
+  pub output : o′ ≡ outcomeOutput bytes x o

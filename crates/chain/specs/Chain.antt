@@ -14,7 +14,7 @@ use Rattle.subregion.specs.declared.Subregion.{Subregion}
 use Rattle.subregion.specs.declared.Subregion.the-variants as region
 use Rattle.subregion.specs.Subregions.{regionOf}
 use Rattle.fe.specs.ColorInterpolation.{colorInterpolationOf}
-use Rattle.elements.specs.Elements.{Made, made, unsupported, kindOf}
+use Rattle.elements.specs.Elements.{ElementKind, made, noPrimitive, kindOf}
 use Rattle.elements.specs.Elements as element
 
 -- what a node does to the chain: it is passed over, it ends the chain, it refuses the sheet, or it is a child that counts
@@ -25,9 +25,9 @@ pub data Step : Type 0 where
   count : Child → Step
 
 -- a child in its subregion, by what its element gives
-abbrev pub kindStep : Node → Rect → Made → Step
+abbrev pub kindStep : Node → Rect → ElementKind → Step
 kindStep n r (made k) = count (record { rect = r; «color_interpolation» = colorInterpolationOf n; own = textOf n AId·Result; kind = k })
-kindStep n r unsupported = pass
+kindStep n r noPrimitive = pass
 kindStep n r (element.refused why) = refused why
 
 -- the region is tried before the kind. The document: a subregion that is no rectangle disables its primitive alone (not certain). The crate: the chain ends
@@ -50,15 +50,15 @@ pub data Chain : Type 0 where
   refused : Refusal → Chain
   kept : List Child → Chain
 
-abbrev pub put : Child → Chain → Chain
-put c (refused why) = refused why
-put c (kept cs) = kept (c ∷ cs)
+abbrev pub keepFirst : Child → Chain → Chain
+keepFirst c (refused why) = refused why
+keepFirst c (kept cs) = kept (c ∷ cs)
 
 abbrev pub follow : Step → Chain → Chain
 follow pass rest = rest
 follow end rest = kept []
 follow (refused why) rest = refused why
-follow (count c) rest = put c rest
+follow (count c) rest = keepFirst c rest
 
 unfoldable pub chain : Frame → List Node → Chain
 chain frame [] = kept []

@@ -4,11 +4,12 @@ use mathlib.Core.Path.{_≡_}
 use mathlib.Core.Bool.{true}
 use lib.Dec.{T}
 use mathlib.Core.List.{List, []}
-use Rattle.svgtree.specs.Parse.{countOf, nodeAt, nodesFrom, nodesAfter}
+use Rattle.svgtree.specs.Parse.{countOf, nodeAt, nodesFrom}
+use Rattle.svgtree.specs.Means.{nodesAfter}
 use Rattle.child.specs.Means.{childIs, mergeEnd}
 use Rattle.region.specs.declared.Frame.{Frame}
 use Rattle.chain.specs.Chain as chain
-use Rattle.chain.specs.Chain.{Chain, kept, put, stepOf}
+use Rattle.chain.specs.Chain.{Chain, kept, keepFirst, stepOf}
 use Rattle.chain.specs.declared.Step.{Step}
 use Rattle.chain.specs.declared.Step.the-variants as step
 use Rattle.chain.specs.declared.Next.{Next}
@@ -39,7 +40,7 @@ chainFrom frame s i = chain.chain frame (nodesFrom s i (countOf s - i))
 abbrev pub nextIs : Frame → List ℕ → Next → Chain
 nextIs frame s next.End = kept []
 nextIs frame s (next.Refused why) = chain.refused why
-nextIs frame s (next.Child j c) = put (childIs s c) (chainFrom frame s (j + 1))
+nextIs frame s (next.Child j c) = keepFirst (childIs s c) (chainFrom frame s (j + 1))
 
 -- the next child is that of its node, which is not before `start`
 abbrev pub NextAt : Frame → List ℕ → ℕ → Next → Type 0

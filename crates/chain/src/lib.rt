@@ -1,7 +1,8 @@
 // A filter's children: each to its subregion and its kind, and the next child that counts.
 ghost use mathlib.Core.Path.{_≡_};
 ghost use Prim.Native.Nat.{_≤_, _<_};
-ghost use Rattle.svgtree.specs.Parse.{countOf, offsetOf, nodeFrom, childrenOf};
+ghost use Rattle.svgtree.specs.Parse.{countOf, offsetOf, nodeFrom};
+ghost use Rattle.svgtree.specs.Means.{childrenOf};
 ghost use Rattle.subregion.specs.Subregions.{regionOf};
 ghost use Rattle.elements.specs.Means.{madeIs, madeEnd};
 ghost use Rattle.chain.specs.Chain.{kindStep, regionStep};

@@ -3,9 +3,6 @@ use Prim.Native.Nat.{ℕ, _+_}
 use mathlib.Core.List.{List, map}
 use mathlib.Core.Option.{Option}
 use Rattle.bits.specs.Texts.{maybeTextIs}
-use Rattle.names.specs.Ids.{AId·In}
-use Rattle.svgtree.specs.Values.{Node}
-use Rattle.svgtree.specs.Readers.{textOf}
 use Rattle.svgtree.specs.Parse.{nodesFrom}
 use Rattle.tree.specs.Input.{Name}
 use Rattle.tree.specs.Kinds as spec
@@ -14,10 +11,7 @@ use Rattle.child.specs.Child as value
 use Rattle.child.specs.declared.Kind.{Kind}
 use Rattle.child.specs.declared.Kind.the-variants as kind
 use Rattle.child.specs.declared.Child.{Child}
-
--- the `in` of a node
-abbrev pub inOf : Node → Option Name
-inOf n = textOf n AId·In
+use Rattle.child.specs.Child.{inOf}
 
 abbrev pub kindIs : List ℕ → Kind → spec.Kind (Option Name)
 kindIs s (kind.Blend v) = spec.Blend (maybeTextIs s (v .input1)) (maybeTextIs s (v .input2)) (v .mode)

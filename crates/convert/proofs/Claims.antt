@@ -5,7 +5,7 @@ use mathlib.Core.List.{List, [], _∷_}
 use Prim.Native.Nat.{ℕ}
 use lib.ListN.{length, drop}
 use lib.Dec.{leb}
-use Rattle.answer.specs.Outcomes.{Outcome, refused, given, inRoom, numberOf, lengthOf, outputOf, Answers}
+use Rattle.answer.specs.Outcomes.{Outcome, refused, given, inRoom, outcomeNumber, outcomeLength, outcomeOutput, Answers}
 use Rattle.answer.specs.declared.Answer.{Answer}
 use Rattle.answer.specs.declared.Refusal.the-variants.{NoPrimitive, ShortOutput}
 use Rattle.answer.proofs.Laws.{never-zero}
@@ -25,7 +25,8 @@ use Rattle.list_within.proofs.ListsFit.{within-none, within}
 use Rattle.list_within.proofs.Rendering.{renders}
 use Rattle.convert.specs.Children.{placeable, collected, listOf, fit, ofChain, childrenOutcome}
 use Rattle.convert.specs.Claim.{Claim}
-use Rattle.convert.specs.Plans.{stopped, childrenIs, Collects}
+use Rattle.convert.specs.Plans.{stopped, Collects}
+use Rattle.list_records.specs.Tables.{childrenIs}
 use Rattle.convert.specs.declared.Collected.{Collected}
 use Rattle.convert.specs.declared.Stop.{Stop}
 
@@ -64,16 +65,16 @@ record Listed (c : Chain) (room : ℕ) : Type 0 where
   counted : c ≡ kept children
   fits : ofChain room c ≡ given children
 
-listed : (room : ℕ) (cs : List Child) → numberOf (fit room cs) ≡ 0 → fit room cs ≡ given cs
+listed : (room : ℕ) (cs : List Child) → outcomeNumber (fit room cs) ≡ 0 → fit room cs ≡ given cs
 unfolding fit inRoom
 listed room [] z = absurd (never-zero NoPrimitive z)
 listed room (c ∷ cs) z = go (leb (length (listOf (c ∷ cs))) room) z
   where
-    go : (b : Bool) → numberOf (cond b (given (c ∷ cs)) (refused ShortOutput)) ≡ 0 → cond b (given (c ∷ cs)) (refused ShortOutput) ≡ given (c ∷ cs)
+    go : (b : Bool) → outcomeNumber (cond b (given (c ∷ cs)) (refused ShortOutput)) ≡ 0 → cond b (given (c ∷ cs)) (refused ShortOutput) ≡ given (c ∷ cs)
     go true z = refl
     go false z = absurd (never-zero ShortOutput z)
 
-chain-listed : (room : ℕ) (c : Chain) → numberOf (ofChain room c) ≡ 0 → Listed c room
+chain-listed : (room : ℕ) (c : Chain) → outcomeNumber (ofChain room c) ≡ 0 → Listed c room
 chain-listed room (chain.refused why) z = absurd (never-zero why z)
 chain-listed room (kept cs) z = record { children = cs; counted = refl; fits = listed room cs z }
 
@@ -84,8 +85,8 @@ module _ (frame : Frame) (nodes : List Node) (framed : SoundFrame frame) (accept
   claimed o r o′ a z =
       let x = chain-listed (length o) (collected frame nodes) (sym (a .number) ∙ z) in
       let cs = x .children in
-      let output : o′ ≡ outputOf listOf (given cs) o = a .output ∙ ap (λ (y : Outcome (List Child)). outputOf listOf y o) (x .fits) in
-      let long : r .length ≡ lengthOf listOf (given cs) = a .length ∙ ap (lengthOf listOf) (x .fits) in
+      let output : o′ ≡ outcomeOutput listOf (given cs) o = a .output ∙ ap (λ (y : Outcome (List Child)). outcomeOutput listOf y o) (x .fits) in
+      let long : r .length ≡ outcomeLength listOf (given cs) = a .length ∙ ap (outcomeLength listOf) (x .fits) in
       let numbers : Sound (primitives cs) = of-collected frame nodes (λ (l : List Child). Sound (primitives l)) sound-none (sound frame nodes framed accepted) cs (x .counted) in
       let layout : ListWithin (primitives cs) = of-collected frame nodes (λ (l : List Child). ListWithin (primitives l)) within-none (within frame nodes framed accepted) cs (x .counted) in
       record {

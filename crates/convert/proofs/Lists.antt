@@ -15,7 +15,8 @@ use Rattle.answer.proofs.Laws.{refused-by, given-by, in-room, out-of-room}
 use Rattle.bits.specs.Bytes.{bytes16}
 use Rattle.bits.specs.Patch.{Put, patch}
 use Rattle.bits.proofs.Patches.{_then_, patch-parts}
-use Rattle.tree.specs.List.{primitiveSize, pairs, total, records, listBytes}
+use Rattle.tree.specs.List.{primitiveSize, pairsBytes, recordsBytes, listBytes}
+use Rattle.tree.specs.Sizes.{total}
 use Rattle.tree.proofs.Lengths.{length-list}
 use Rattle.tree.proofs.Pairs.{length-pairs}
 use Rattle.region.specs.declared.Frame.{Frame}
@@ -23,11 +24,11 @@ use Rattle.child.specs.Child.{Child}
 use Rattle.results.specs.declared.FilterResults.{FilterResults}
 use Rattle.naming.specs.Names.{start}
 use Rattle.list_primitives.specs.Primitives.{primitives}
-use Rattle.list_records.specs.Tables.{recordsUpTo, Measures}
+use Rattle.list_records.specs.Tables.{recordsUpTo, Measures, childrenIs}
 use Rattle.list_records.proofs.Laws.{records-are, sizes-are}
 use Rattle.list_within.proofs.ListsFit.{one-each}
 use Rattle.convert.specs.Children.{listOf, fit}
-use Rattle.convert.specs.Plans.{childrenIs, Planned}
+use Rattle.convert.specs.Plans.{Planned}
 
 fit-no : (room : ℕ) (cs : List Child) → 0 < length cs → room < length (listOf cs) → fit room cs ≡ refused ShortOutput
 unfolding fit
@@ -63,11 +64,11 @@ module _ {frame : Frame} {s nodes names table : List ℕ} {f : FilterResults} {s
   sizes : take (f .count) table ≡ map primitiveSize (primitives children)
   sizes = measured .sizes ∙ sizes-are frame s nodes names f (f .count) fits (p .named) refl (f .count) (omega arith)
 
-  run : recordsUpTo frame s nodes names (f .count) ≡ records (primitives children)
+  run : recordsUpTo frame s nodes names (f .count) ≡ recordsBytes (primitives children)
   run = records-are frame s nodes names f (f .count) fits (p .named) refl (f .count) (omega arith)
 
   -- the list is its count, the pairs of the table of sizes, and the records of the tables
-  list-parts : listOf children ≡ bytes16 (f .count) ++ pairs (2 + 8 * f .count) (take (f .count) table) ++ recordsUpTo frame s nodes names (f .count)
+  list-parts : listOf children ≡ bytes16 (f .count) ++ pairsBytes (2 + 8 * f .count) (take (f .count) table) ++ recordsUpTo frame s nodes names (f .count)
   unfolding listBytes
   list-parts = rw (counted, sizes, run) refl
 
@@ -90,7 +91,7 @@ module _ {frame : Frame} {s nodes names table : List ℕ} {f : FilterResults} {s
   -- three writers in a row write the list at the output's start, and leave the rest
   pub written : {o o₁ o₂ o₃ : List ℕ} {a b e : ℕ} → length (listOf children) ≤ length o
       → Put o 0 2 (bytes16 (f .count)) o₁ a
-      → Put o₁ a (8 * f .count) (pairs (2 + 8 * f .count) (take (f .count) table)) o₂ b
+      → Put o₁ a (8 * f .count) (pairsBytes (2 + 8 * f .count) (take (f .count) table)) o₂ b
       → Put o₂ b (length (recordsUpTo frame s nodes names (f .count))) (recordsUpTo frame s nodes names (f .count)) o₃ e
       → o₃ ≡ listOf children ++ drop (length (listOf children)) o
   written {o} h p q r =

@@ -13,7 +13,7 @@ use Rattle.svgtree.specs.Readers.{textOf}
 use Rattle.tree.specs.Input.{Name}
 use Rattle.tree.specs.Kinds.{Kind, Blend, ColorMatrix, ComponentTransfer, Composite, ConvolveMatrix, DiffuseLighting, DisplacementMap, DropShadow, Flood}
 use Rattle.tree.specs.Kinds.{ConvolveMatrixFields, GaussianBlur, Merge, Morphology, Offset, SpecularLighting, Tile, Turbulence}
-use Rattle.child.specs.Means.{inOf}
+use Rattle.child.specs.Child.{inOf}
 use Rattle.region.specs.declared.Frame.{Frame}
 use Rattle.subregion.specs.Subregions.{scaleOf}
 use Rattle.fe_color.specs.Blend.{modeOf}
@@ -42,50 +42,50 @@ use Rattle.fe_light.specs.declared.specular_lighting.MaybeSpecularLighting.{May
 use Rattle.fe_light.specs.declared.specular_lighting.MaybeSpecularLighting.the-variants as specular
 
 -- what an element gives: a kind; nothing, where no primitive is made of its tag; or a refusal
-pub data Made : Type 0 where
-  made : Kind (Option Name) → Made
-  unsupported : Made
-  refused : Refusal → Made
+pub data ElementKind : Type 0 where
+  made : Kind (Option Name) → ElementKind
+  noPrimitive : ElementKind
+  refused : Refusal → ElementKind
 
 -- the second input of a node
 abbrev pub in2Of : Node → Option Name
 in2Of n = textOf n AId·In2
 
 -- the transparent black flood stands for a lighting or a kernel that cannot be drawn
-abbrev pub flood : Made
-flood = made (Flood transparentBlack)
+abbrev pub floodMade : ElementKind
+floodMade = made (Flood transparentBlack)
 
-abbrev pub diffuseMade : Node → MaybeDiffuseLighting → Made
+abbrev pub diffuseMade : Node → MaybeDiffuseLighting → ElementKind
 diffuseMade n (diffuse.Is v) = made (DiffuseLighting (inOf n) v)
-diffuseMade n diffuse.No = flood
+diffuseMade n diffuse.No = floodMade
 
-abbrev pub specularMade : Node → MaybeSpecularLighting → Made
+abbrev pub specularMade : Node → MaybeSpecularLighting → ElementKind
 specularMade n (specular.Is v) = made (SpecularLighting (inOf n) v)
-specularMade n specular.No = flood
+specularMade n specular.No = floodMade
 
-abbrev pub convolveMade : Node → Option ConvolveMatrixFields → Made
+abbrev pub convolveMade : Node → Option ConvolveMatrixFields → ElementKind
 convolveMade n (some v) = made (ConvolveMatrix (inOf n) v)
-convolveMade n none = flood
+convolveMade n none = floodMade
 
-abbrev pub morphologyMade : Node → MaybeMorphology → Made
+abbrev pub morphologyMade : Node → MaybeMorphology → ElementKind
 morphologyMade n (morphology.Is v) = made (Morphology (inOf n) v)
 morphologyMade n (morphology.Refused why) = refused why
 
-abbrev pub displacementMade : Node → MaybeDisplacementMap → Made
+abbrev pub displacementMade : Node → MaybeDisplacementMap → ElementKind
 displacementMade n (displacement.Is v) = made (DisplacementMap (inOf n) (in2Of n) v)
 displacementMade n (displacement.Refused why) = refused why
 
-abbrev pub turbulenceMade : MaybeTurbulence → Made
+abbrev pub turbulenceMade : MaybeTurbulence → ElementKind
 turbulenceMade (turbulence.Is v) = made (Turbulence v)
 turbulenceMade (turbulence.Refused why) = refused why
 
 infixl 6 _gives_
 -- a tag, and what an element with that tag gives
 pub data Tagged : Type 0 where
-  _gives_ : ℕ → Made → Tagged
+  _gives_ : ℕ → ElementKind → Tagged
 
-unfoldable pub byTag : List Tagged → ℕ → Made
-byTag [] tag = unsupported
+unfoldable pub byTag : List Tagged → ℕ → ElementKind
+byTag [] tag = noPrimitive
 byTag ((t gives m) ∷ rest) tag = cond (eqb tag t) m (byTag rest tag)
 
 -- every element that a primitive is made of; lengths and offsets are scaled by the box's size in box units. feMerge: the document has an input for each
@@ -111,5 +111,5 @@ elements frame n children =
     ∷ []
 
 -- an element and its children
-unfoldable pub kindOf : Frame → Node → List Node → Made
+unfoldable pub kindOf : Frame → Node → List Node → ElementKind
 kindOf frame n children = byTag (elements frame n children) (n .tag)

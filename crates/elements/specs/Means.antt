@@ -7,9 +7,9 @@ use Rattle.elements.specs.Elements as element
 use Rattle.elements.specs.declared.Made.{Made}
 use Rattle.elements.specs.declared.Made.the-variants as made
 
-abbrev pub madeIs : List ℕ → Made → element.Made
+abbrev pub madeIs : List ℕ → Made → element.ElementKind
 madeIs s (made.Is k) = element.made (kindIs s k)
-madeIs s made.Unsupported = element.unsupported
+madeIs s made.Unsupported = element.noPrimitive
 madeIs s (made.Refused why) = element.refused why
 
 -- the node after the last that a kind reads its inputs from
@@ -19,6 +19,6 @@ madeEnd made.Unsupported = 0
 madeEnd (made.Refused why) = 0
 
 -- what is said of an element's answer r: it stands for m, and the nodes that its kind reads inputs from are before node `bound`
-pub record Makes (s : List ℕ) (r : Made) (m : element.Made) (bound : ℕ) : Type 0 where
+pub record Makes (s : List ℕ) (r : Made) (m : element.ElementKind) (bound : ℕ) : Type 0 where
   pub exact : madeIs s r ≡ m
   pub within : madeEnd r ≤ bound

@@ -3,7 +3,7 @@ ghost use mathlib.Core.List.{map};
 ghost use Prim.Native.Nat.{_+_, _<_};
 ghost use Rattle.svgtree.specs.Parse.{nodeFrom, nodesFrom};
 ghost use Rattle.tree.specs.Kinds as spec;
-ghost use Rattle.child.specs.Means.{inOf};
+ghost use Rattle.child.specs.Child.{inOf};
 ghost use Rattle.fe_blur.specs.GaussianBlur.{gaussianBlurOf};
 ghost use Rattle.fe_flood.specs.Flood.{floodOf};
 ghost use Rattle.fe_blur.specs.Offset.{offsetFieldsOf};
@@ -166,7 +166,7 @@ fn make_merge(s: &[u8], i: u16, n: u16) -> Made
 }
 
 fn dummy(s: &[u8]) -> Made
-    ensures { λ r. ⌜ Makes (now (s .entry)) r element.flood 0 ⌝ }
+    ensures { λ r. ⌜ Makes (now (s .entry)) r element.floodMade 0 ⌝ }
 {
     Made::Is(Kind::Flood(create_dummy_primitive()))
 }

@@ -20,7 +20,7 @@ use Rattle.num.proofs.Laws.{finite-num, plus, mul-num}
 use Rattle.num.proofs.Finite.{orZero-finite}
 use Rattle.num.proofs.Each.{each-map, each-all}
 use Rattle.svgtree.specs.Values.{Node, Value, absent, textValue, numberValue, numbersValue, lengthValue, colorValue, triesValue}
-use Rattle.svgtree.specs.Readers.{numberIn, numbersIn, lookup, numbersOf, orElse}
+use Rattle.svgtree.specs.Readers.{numberIn, numbersIn, valueUnder, numbersOf, orDefault}
 use Rattle.fe.specs.Attributes.{numberOr}
 
 module _ (P : Float → Type 0) where
@@ -36,14 +36,14 @@ module _ (P : Float → Type 0) where
 
   -- of those of each attribute, by its id
   abbrev pub NodeHolds : Node → Type 0
-  NodeHolds n = (id : ℕ) → ValueHolds (lookup id (n .attributes))
+  NodeHolds n = (id : ℕ) → ValueHolds (valueUnder id (n .attributes))
 
   -- of each number of a list that may be absent
   abbrev pub ListHolds : Option (List Float) → Type 0
   ListHolds none = Unit {0}
   ListHolds (some xs) = Each P xs
 
-  number-in : (v : Value) (d : Float) → ValueHolds v → P d → P (orElse (numberIn v) d)
+  number-in : (v : Value) (d : Float) → ValueHolds v → P d → P (orDefault (numberIn v) d)
   unfolding numberIn
   number-in absent d h k = k
   number-in (textValue t) d h k = k
@@ -64,10 +64,10 @@ module _ (P : Float → Type 0) where
   numbers-in (triesValue t) h = tt
 
   pub number-or : (n : Node) → NodeHolds n → (id : ℕ) (d : Float) → P d → P (numberOr n id d)
-  number-or n h id d k = number-in (lookup id (n .attributes)) d (h id) k
+  number-or n h id d k = number-in (valueUnder id (n .attributes)) d (h id) k
 
   pub numbers-of : (n : Node) → NodeHolds n → (id : ℕ) → ListHolds (numbersOf n id)
-  numbers-of n h id = numbers-in (lookup id (n .attributes)) (h id)
+  numbers-of n h id = numbers-in (valueUnder id (n .attributes)) (h id)
 
 -- ---- what is read is finite: what holds of every finite number holds of it
 
@@ -83,7 +83,7 @@ module _ (P : Float → Type 0) (finite-is : (x : Float) → IsFinite x → P x)
   value-holds (triesValue t) = tt
 
   pub node-holds : (n : Node) → NodeHolds P n
-  node-holds n id = value-holds (lookup id (n .attributes))
+  node-holds n id = value-holds (valueUnder id (n .attributes))
 
 pub node-finite : (n : Node) → NodeHolds IsFinite n
 node-finite n = node-holds IsFinite (λ x h. h) n

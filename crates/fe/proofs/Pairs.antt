@@ -13,23 +13,23 @@ use Rattle.num.specs.Sign.{positive}
 use Rattle.fe.specs.declared.pair.Pair.{Pair}
 use Rattle.fe.specs.declared.pair.MaybePair.{MaybePair}
 use Rattle.fe.specs.declared.pair.MaybePair.the-variants.{Is, No}
-use Rattle.fe.specs.Pairs.{both, pairIn, ifPositive}
+use Rattle.fe.specs.Pairs.{pairOf, pairIn, ifPositive}
 
-pub of-one : (xs : List Float) → length xs ≡ 1 → both (getD xs 0 plusZero) (getD xs 0 plusZero) ≡ pairIn xs
+pub of-one : (xs : List Float) → length xs ≡ 1 → pairOf (getD xs 0 plusZero) (getD xs 0 plusZero) ≡ pairIn xs
 unfolding pairIn
 of-one [] e = let z : ⊥ = omega arith in absurd z
 of-one (x ∷ []) e = refl
 of-one (x ∷ y ∷ []) e = let z : ⊥ = omega arith in absurd z
 of-one (x ∷ y ∷ w ∷ rest) e = let z : ⊥ = omega arith in absurd z
 
-pub of-two : (xs : List Float) → length xs ≡ 2 → both (getD xs 0 plusZero) (getD xs 1 plusZero) ≡ pairIn xs
+pub of-two : (xs : List Float) → length xs ≡ 2 → pairOf (getD xs 0 plusZero) (getD xs 1 plusZero) ≡ pairIn xs
 unfolding pairIn
 of-two [] e = let z : ⊥ = omega arith in absurd z
 of-two (x ∷ []) e = let z : ⊥ = omega arith in absurd z
 of-two (x ∷ y ∷ []) e = refl
 of-two (x ∷ y ∷ w ∷ rest) e = let z : ⊥ = omega arith in absurd z
 
-pub of-others : (xs : List Float) → (length xs ≡ 1 → ⊥) → (length xs ≡ 2 → ⊥) → both plusZero plusZero ≡ pairIn xs
+pub of-others : (xs : List Float) → (length xs ≡ 1 → ⊥) → (length xs ≡ 2 → ⊥) → pairOf plusZero plusZero ≡ pairIn xs
 unfolding pairIn
 of-others [] f g = refl
 of-others (x ∷ []) f g = absurd (f refl)

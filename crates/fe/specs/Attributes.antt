@@ -6,11 +6,11 @@ use mathlib.Core.Option.{Option, none, some}
 use lib.Ieee.{Float}
 use Rattle.bits.specs.Bytes.{same}
 use Rattle.svgtree.specs.Values.{Node}
-use Rattle.svgtree.specs.Readers.{numberOf, orElse}
+use Rattle.svgtree.specs.Readers.{numberOf, orDefault}
 
 -- a node's number by its id, or the default
 abbrev pub numberOr : Node → ℕ → Float → Float
-numberOr n id d = orElse (numberOf n id) d
+numberOr n id d = orDefault (numberOf n id) d
 
 -- whether a text is there and is the word
 abbrev pub isWord : Option (List ℕ) → List ℕ → Bool

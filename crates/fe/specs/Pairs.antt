@@ -10,15 +10,15 @@ use Rattle.fe.specs.declared.pair.MaybePair.{MaybePair}
 use Rattle.fe.specs.declared.pair.MaybePair.the-variants.{Is, No}
 
 -- one number for each axis
-abbrev pub both : Float → Float → Pair
-both x y = record { x = x; y = y }
+abbrev pub pairOf : Float → Float → Pair
+pairOf x y = record { x = x; y = y }
 
 -- The document: a list of any other length is an error, as if the attribute were absent (not certain). The crate: it gives 0, 0.
 unfoldable pub pairIn : List Float → Pair
-pairIn [] = both plusZero plusZero
-pairIn (x ∷ []) = both x x
-pairIn (x ∷ y ∷ []) = both x y
-pairIn (x ∷ y ∷ z ∷ rest) = both plusZero plusZero
+pairIn [] = pairOf plusZero plusZero
+pairIn (x ∷ []) = pairOf x x
+pairIn (x ∷ y ∷ []) = pairOf x y
+pairIn (x ∷ y ∷ z ∷ rest) = pairOf plusZero plusZero
 
 -- whether neither number has its sign set, as -0 has
 unfoldable pub signsClear : Pair → Bool

@@ -2,7 +2,7 @@
 ghost use mathlib.Core.Path.{_≡_};
 ghost use Rattle.bits.specs.Texts.{maybeTextIs};
 ghost use Rattle.svgtree.specs.Parse.{nodeFrom};
-ghost use Rattle.svgtree.specs.Readers.{orElse};
+ghost use Rattle.svgtree.specs.Readers.{orDefault};
 ghost use Rattle.fe.specs.Attributes.{numberOr, isWord};
 use bits::MaybeText;
 use bits::text_is;
@@ -14,7 +14,7 @@ pub mod pair;
 
 // The number, or the default where it is absent: Rust's `unwrap_or`.
 pub fn or_else(x: MaybeNumber, default: f32) -> f32
-    ensures { λ r. ⌜ r ≡ orElse x default ⌝ }
+    ensures { λ r. ⌜ r ≡ orDefault x default ⌝ }
 {
     match x {
         MaybeNumber::Is(n) => n,

@@ -16,7 +16,8 @@ use Rattle.fe_flood.proofs.Ranges.{flood-range}
 use Rattle.fe_blur.specs.GaussianBlur.{deviation, numbersOrDefault, gaussianBlurOf}
 use Rattle.fe_blur.specs.Offset.{offsetFieldsOf}
 use Rattle.fe_blur.specs.DropShadow.{dropShadowOf}
-use Rattle.fe_blur.specs.Ranges.{GaussianBlurRange, OffsetRange, DropShadowRange}
+use Rattle.fe_blur.specs.Ranges.{GaussianBlurRange, DropShadowRange}
+use Rattle.fe_blur.specs.ProofRanges.{OffsetRange}
 
 deviation-positive : (n scale : Float) → T (positive (deviation n scale))
 unfolding deviation

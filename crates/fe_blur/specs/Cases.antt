@@ -8,8 +8,8 @@ use Rattle.num.specs.Constants.{plusZero, one, two}
 use Rattle.num.specs.Narrowed.{narrowed, orZero}
 use Rattle.geom.specs.declared.Size.{Size}
 use Rattle.svgtree.specs.Values.{Node, Tried, triesValue}
-use Rattle.svgtree.specs.Readers.{lookup, triesIn}
-use Rattle.fe.specs.Pairs.{both}
+use Rattle.svgtree.specs.Readers.{valueUnder, triesIn}
+use Rattle.fe.specs.Pairs.{pairOf}
 use Rattle.fe_blur.specs.GaussianBlur.{deviation, deviationsOf}
 
 -- a node with nothing but the tries at `stdDeviation`
@@ -27,12 +27,12 @@ abbrev oneByOne : Size
 oneByOne = record { width = one; height = one }
 
 -- number, number, error gives both; one number stands for both
-pub two-numbers : deviationsOf (trying (record { first = triedOne; second = triedTwo; third = none })) oneByOne two ≡ both one two
-unfolding lookup triesIn deviation orZero narrowed mul le round ofBits
+pub two-numbers : deviationsOf (trying (record { first = triedOne; second = triedTwo; third = none })) oneByOne two ≡ pairOf one two
+unfolding valueUnder triesIn deviation orZero narrowed mul le round ofBits
 two-numbers = refl
 
-pub one-number : deviationsOf (trying (record { first = triedTwo; second = none; third = none })) oneByOne two ≡ both two two
-unfolding lookup triesIn deviation orZero narrowed mul le round ofBits
+pub one-number : deviationsOf (trying (record { first = triedTwo; second = none; third = none })) oneByOne two ≡ pairOf two two
+unfolding valueUnder triesIn deviation orZero narrowed mul le round ofBits
 one-number = refl
 
 -- "Comparing deviations with 0 before scaling" is a misreading: the largest f32 is positive, and its double is not, being infinite

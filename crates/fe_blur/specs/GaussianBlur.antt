@@ -13,24 +13,24 @@ use Rattle.svgtree.specs.Values.{Tried, Node}
 use Rattle.svgtree.specs.Readers.{triesOf}
 use Rattle.tree.specs.declared.GaussianBlur.{GaussianBlur}
 use Rattle.fe.specs.declared.pair.Pair.{Pair}
-use Rattle.fe.specs.Pairs.{both}
+use Rattle.fe.specs.Pairs.{pairOf}
 
 -- the first two tries: two numbers, one number for both axes, or none
 abbrev pub oneOrTwo : Option Float → Option Float → Pair
-oneOrTwo (some x) (some y) = both (asF32 x) (asF32 y)
-oneOrTwo (some x) none = both (asF32 x) (asF32 x)
-oneOrTwo none second = both plusZero plusZero
+oneOrTwo (some x) (some y) = pairOf (asF32 x) (asF32 y)
+oneOrTwo (some x) none = pairOf (asF32 x) (asF32 x)
+oneOrTwo none second = pairOf plusZero plusZero
 
 -- "Only three tries at stdDeviation count: number, number, error gives both numbers; three numbers give 0, 0".
 -- The document: a list that is not one or two numbers is an error, as if the attribute were absent (not certain). The crate: 0, 0, for feDropShadow too,
 -- and one or two numbers count where what follows them is no number.
 abbrev pub numbersTried : Option Float → Option Float → Option Float → Pair
 numbersTried first second none = oneOrTwo first second
-numbersTried first second (some z) = both plusZero plusZero
+numbersTried first second (some z) = pairOf plusZero plusZero
 
 -- the same of an attribute that may be absent
 abbrev pub numbersOrDefault : Option Tried → Float → Pair
-numbersOrDefault none default = both default default
+numbersOrDefault none default = pairOf default default
 numbersOrDefault (some t) default = numbersTried (t .first) (t .second) (t .third)
 
 -- "radius, deviation .. are positive": a deviation is scaled first and compared then, and is 0 where the product is not positive.
@@ -42,7 +42,7 @@ deviation n scale = cond (positive (mul binary32 n scale)) (mul binary32 n scale
 abbrev pub deviationsOf : Node → Size → Float → Pair
 deviationsOf n scale default =
     let p = numbersOrDefault (triesOf n AId·StdDeviation) default in
-    both (deviation (p .x) (scale .width)) (deviation (p .y) (scale .height))
+    pairOf (deviation (p .x) (scale .width)) (deviation (p .y) (scale .height))
 
 -- The document: `edgeMode` says how the input goes on beyond its edges. The crate does not read it on feGaussianBlur.
 abbrev pub gaussianBlurOf : Node → Size → GaussianBlur

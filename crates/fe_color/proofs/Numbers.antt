@@ -17,8 +17,7 @@ use Rattle.num.proofs.Finite.{zero-finite}
 use Rattle.num.proofs.Each.{_and_, choose, each-append, each-all}
 use Rattle.svgtree.specs.Values.{Node}
 use Rattle.svgtree.specs.Readers.{numbersOf, textOf}
-use Rattle.tree.specs.Kinds.{ColorMatrixKind, Matrix, TransferFunction, Identity}
-use Rattle.tree.specs.Means.{identityMatrix}
+use Rattle.tree.specs.Kinds.{ColorMatrixKind, Matrix, TransferFunction, Identity, identityMatrix}
 use Rattle.tree.specs.declared.CompositeOperator.{CompositeOperator}
 use Rattle.tree.specs.declared.CompositeOperator.the-variants.{Over}
 use Rattle.fe.specs.Attributes.{numberOr}

@@ -10,8 +10,7 @@ use Rattle.num.specs.Constants.{plusZero, one}
 use Rattle.num.specs.Sign.{f32Bound}
 use Rattle.svgtree.specs.Values.{Node}
 use Rattle.svgtree.specs.Readers.{textOf, numbersOf}
-use Rattle.tree.specs.Kinds.{ColorMatrixKind, Matrix, Saturate, HueRotate, LuminanceToAlpha}
-use Rattle.tree.specs.Means.{identityMatrix}
+use Rattle.tree.specs.Kinds.{ColorMatrixKind, Matrix, Saturate, HueRotate, LuminanceToAlpha, identityMatrix}
 use Rattle.fe.specs.Keywords.{_means_, keyword}
 
 -- the first number of a list, or the default where it has none

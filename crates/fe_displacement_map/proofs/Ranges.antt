@@ -16,7 +16,7 @@ use Rattle.fe.specs.Attributes.{numberOr}
 use Rattle.fe.proofs.Numbers.{number-or-finite}
 use Rattle.fe_displacement_map.specs.declared.MaybeDisplacementMap.the-variants as displacement
 use Rattle.fe_displacement_map.specs.DisplacementMap.{boxSum, displacementWith, displacementMapOf}
-use Rattle.fe_displacement_map.specs.Ranges.{DisplacementMapOk}
+use Rattle.fe_displacement_map.specs.ProofRanges.{DisplacementMapOk}
 use Rattle.fe_displacement_map.proofs.Numbers.{add-plus, half-finite}
 
 module _ (n : Node) (scale : Size) (fw : IsFinite (scale .width)) (fh : IsFinite (scale .height)) (pw : T (plus (scale .width))) (ph : T (plus (scale .height))) where

@@ -1,3 +1,3 @@
 pub mod DisplacementMap
-pub mod Ranges
+pub mod ProofRanges
 pub mod Cases

@@ -20,11 +20,11 @@ use Rattle.tree.specs.Kinds.{ConvolveMatrixData}
 use Rattle.fe_kernel.specs.declared.order.Order.{Order}
 use Rattle.fe_kernel.specs.declared.target.MaybeTarget.{MaybeTarget}
 use Rattle.fe_kernel.specs.declared.target.MaybeTarget.the-variants.{Is, No}
-use Rattle.fe_kernel.specs.Target.{below, inside, givenOr, targetOf}
+use Rattle.fe_kernel.specs.Target.{targetBelow, targetInside, givenOr, targetOf}
 use Rattle.fe_kernel.specs.Order.{orderOf}
 use Rattle.fe_kernel.specs.Divisor.{defaultDivisor, divisorOf}
 use Rattle.fe_kernel.specs.ConvolveMatrix.{matrixWith, kernelMatrixOf, convolveWith, convolveOf, convolveMatrixOf}
-use Rattle.fe_kernel.specs.Ranges.{KernelOk, ConvolveMatrixOk}
+use Rattle.fe_kernel.specs.ProofRanges.{KernelOk, ConvolveMatrixOk}
 use Rattle.fe_kernel.proofs.Sums.{divisor-num}
 use Rattle.fe.proofs.Numbers.{ListHolds, number-or-finite, number-or-num, numbers-finite}
 
@@ -34,14 +34,14 @@ abbrev TargetOk : ℕ → MaybeTarget → Type 0
 TargetOk order (Is t) = t < order
 TargetOk order No = Unit {0}
 
-below-ok : (t order : ℕ) → TargetOk order (below t order)
+below-ok : (t order : ℕ) → TargetOk order (targetBelow t order)
 below-ok t order = go (ltb t order) (ltb→lt t order)
   where
     go : (b : Bool) → (T b → t < order) → TargetOk order (cond b (Is t) No)
     go true h = h tt
     go false h = tt
 
-inside-ok : (t : ℤ) (order : ℕ) → TargetOk order (inside t order)
+inside-ok : (t : ℤ) (order : ℕ) → TargetOk order (targetInside t order)
 inside-ok (pos t) order = below-ok t order
 inside-ok (negsuc t) order = tt
 

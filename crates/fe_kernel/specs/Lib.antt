@@ -4,3 +4,4 @@ pub mod Divisor
 pub mod ConvolveMatrix
 pub mod Means
 pub mod Ranges
+pub mod ProofRanges

@@ -11,13 +11,13 @@ use Rattle.svgtree.specs.Readers.{triesOf}
 use Rattle.fe_kernel.specs.declared.order.Order.{Order}
 
 -- a number that exceeds 0; 0 for every other
-abbrev pub above : ℤ → ℕ
-above (pos n) = n
-above (negsuc n) = 0
+abbrev pub aboveZero : ℤ → ℕ
+aboveZero (pos n) = n
+aboveZero (negsuc n) = 0
 
 -- "each cut toward zero to i32 and held", or a default
 abbrev pub cutOr : Option Float → ℕ → ℕ
-cutOr (some x) default = above (toSigned 31 x)
+cutOr (some x) default = aboveZero (toSigned 31 x)
 cutOr none default = default
 
 -- "unless both exceed 0, 3 and 3"

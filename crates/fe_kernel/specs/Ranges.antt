@@ -2,7 +2,6 @@
 use Prim.Native.Nat.{_*_, _<_}
 use mathlib.Core.Path.{_≡_}
 use mathlib.Core.Bool.{false}
-use mathlib.Core.Option.{Option, none, some}
 use lib.ListN.{length}
 use Rattle.num.specs.Numbers.{IsFinite, IsNumber, Each}
 use Rattle.num.specs.Sign.{nearZero}
@@ -21,13 +20,3 @@ pub record ConvolveMatrixRange (v : ConvolveMatrixFields) : Type 0 where
   pub divisor : nearZero (v .divisor) ≡ false
   pub divisor-number : IsNumber (v .divisor)
   pub bias : IsFinite (v .bias)
-
--- the same of an answer; where there is no value there is nothing to say
-
-abbrev pub KernelOk : Option ConvolveMatrixData → Type 0
-KernelOk (some m) = KernelRange m
-KernelOk none = Unit {0}
-
-abbrev pub ConvolveMatrixOk : Option ConvolveMatrixFields → Type 0
-ConvolveMatrixOk (some v) = ConvolveMatrixRange v
-ConvolveMatrixOk none = Unit {0}

@@ -10,12 +10,12 @@ use Rattle.fe_kernel.specs.declared.target.MaybeTarget.{MaybeTarget}
 use Rattle.fe_kernel.specs.declared.target.MaybeTarget.the-variants.{Is, No}
 
 -- a column or row, where there is such a one
-abbrev pub below : ℕ → ℕ → MaybeTarget
-below t order = cond (ltb t order) (Is t) No
+abbrev pub targetBelow : ℕ → ℕ → MaybeTarget
+targetBelow t order = cond (ltb t order) (Is t) No
 
-abbrev pub inside : ℤ → ℕ → MaybeTarget
-inside (pos t) order = below t order
-inside (negsuc t) order = No
+abbrev pub targetInside : ℤ → ℕ → MaybeTarget
+targetInside (pos t) order = targetBelow t order
+targetInside (negsuc t) order = No
 
 -- half of the order, rounded down, where no target is given; a given one is "cut toward zero to i32". The crate takes the half in f32, which is
 -- the same number for every order that a kernel of at most 1,024 numbers can have.
@@ -26,4 +26,4 @@ givenOr number.No order = pos (order / 2)
 -- the column, or the row, that stands over the pixel. The document: a whole number below the order, and another is an error (not certain). The crate: a
 -- fraction is cut toward zero, and for one outside the order, which is No here, the flood stands for the element.
 unfoldable pub targetOf : MaybeNumber → ℕ → MaybeTarget
-targetOf target order = inside (givenOr target order) order
+targetOf target order = targetInside (givenOr target order) order

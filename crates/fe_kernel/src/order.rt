@@ -2,7 +2,7 @@
 ghost use mathlib.Core.Path.{_≡_};
 ghost use Rattle.svgtree.specs.Means.{tryIs};
 ghost use Rattle.svgtree.specs.Parse.{nodeFrom};
-ghost use Rattle.fe_kernel.specs.Order.{above, cutOr, bothAbove, orderOf};
+ghost use Rattle.fe_kernel.specs.Order.{aboveZero, cutOr, bothAbove, orderOf};
 use names::aid;
 use num::f64_to_i32;
 use svgtree::MaybeTries;
@@ -17,7 +17,7 @@ pub struct Order {
 
 // A number that exceeds 0; 0 for every other.
 pub(crate) fn above_zero(x: i32) -> u32
-    ensures { λ r. ⌜ r ≡ above x ⌝ }
+    ensures { λ r. ⌜ r ≡ aboveZero x ⌝ }
 {
     if x < 0 {
         return 0;

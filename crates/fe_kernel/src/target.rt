@@ -1,6 +1,6 @@
 // The attributes `targetX` and `targetY`.
 ghost use mathlib.Core.Path.{_≡_};
-ghost use Rattle.fe_kernel.specs.Target.{below, inside, targetOf};
+ghost use Rattle.fe_kernel.specs.Target.{targetBelow, targetInside, targetOf};
 use crate::order::above_zero;
 use num::f32_to_i32;
 use svgtree::MaybeNumber;
@@ -11,7 +11,7 @@ pub enum MaybeTarget {
 }
 
 fn target_below(t: u32, order: u32) -> MaybeTarget
-    ensures { λ r. ⌜ r ≡ below t order ⌝ }
+    ensures { λ r. ⌜ r ≡ targetBelow t order ⌝ }
 {
     if t < order {
         return MaybeTarget::Is(t);
@@ -20,7 +20,7 @@ fn target_below(t: u32, order: u32) -> MaybeTarget
 }
 
 fn target_inside(t: i32, order: u32) -> MaybeTarget
-    ensures { λ r. ⌜ r ≡ inside t order ⌝ }
+    ensures { λ r. ⌜ r ≡ targetInside t order ⌝ }
 {
     if t < 0 {
         return MaybeTarget::No;

@@ -10,7 +10,7 @@ use Rattle.num.specs.Numbers.{Each}
 use Rattle.num.specs.Sign.{positive}
 use Rattle.num.proofs.Each.{_and_, choose}
 use Rattle.svgtree.specs.Values.{Node, Value, absent, textValue, numberValue, numbersValue, lengthValue, colorValue, triesValue}
-use Rattle.svgtree.specs.Readers.{numberIn, lookup}
+use Rattle.svgtree.specs.Readers.{numberIn, valueUnder}
 use Rattle.tree.specs.declared.LightSource.{LightSource}
 use Rattle.tree.specs.declared.LightSource.the-variants.{DistantLight, PointLight, SpotLight}
 use Rattle.fe.specs.Attributes.{numberOr}
@@ -76,7 +76,7 @@ module _ (P : Float → Type 0) (zero-holds : P plusZero) (one-holds : P one) (n
       zero-or AId·X and zero-or AId·Y and zero-or AId·Z
       and zero-or AId·PointsAtX and zero-or AId·PointsAtY and zero-or AId·PointsAtZ
       and choose P (positive (numberOr n AId·SpecularExponent one)) (numberOr n AId·SpecularExponent one) one exponent-holds one-holds
-      and option-holds P (lookup AId·LimitingConeAngle (n .attributes)) (h AId·LimitingConeAngle)
+      and option-holds P (valueUnder AId·LimitingConeAngle (n .attributes)) (h AId·LimitingConeAngle)
 
   pub light-holds : LightHolds (λ (l : LightSource). Each P (lightNumbers l)) (lightOf n)
   light-holds = light-by-tag (λ (l : LightSource). Each P (lightNumbers l)) n distant-holds point-holds spot-holds

@@ -22,7 +22,7 @@ use Rattle.fe_light.specs.LightSource.{lightOf, lightSourceOf}
 use Rattle.fe_light.specs.LightingColor.{lightingColorOf}
 use Rattle.fe_light.specs.DiffuseLighting.{diffuseWith, diffuseLightingOf}
 use Rattle.fe_light.specs.SpecularLighting.{exponentInRange, specularWith, specularLightingOf}
-use Rattle.fe_light.specs.Ranges.{LightRange, DiffuseOk, SpecularOk}
+use Rattle.fe_light.specs.ProofRanges.{LightRange, DiffuseOk, SpecularOk}
 use Rattle.fe_light.proofs.Numbers.{LightHolds, light-by-tag, first-holds, distant-holds, point-holds, spot-holds}
 
 -- ---- light sources

@@ -3,3 +3,4 @@ pub mod LightingColor
 pub mod DiffuseLighting
 pub mod SpecularLighting
 pub mod Ranges
+pub mod ProofRanges

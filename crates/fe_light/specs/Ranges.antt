@@ -11,10 +11,6 @@ use Rattle.tree.specs.declared.LightSource.{LightSource}
 use Rattle.tree.specs.declared.LightSource.the-variants.{DistantLight, PointLight, SpotLight}
 use Rattle.tree.specs.declared.DiffuseLighting.{DiffuseLighting}
 use Rattle.tree.specs.declared.SpecularLighting.{SpecularLighting}
-use Rattle.fe_light.specs.declared.diffuse_lighting.MaybeDiffuseLighting.{MaybeDiffuseLighting}
-use Rattle.fe_light.specs.declared.diffuse_lighting.MaybeDiffuseLighting.the-variants as diffuse
-use Rattle.fe_light.specs.declared.specular_lighting.MaybeSpecularLighting.{MaybeSpecularLighting}
-use Rattle.fe_light.specs.declared.specular_lighting.MaybeSpecularLighting.the-variants as specular
 use Rattle.fe_light.specs.SpecularLighting.{exponentInRange}
 
 -- the f32 that are written for a value, in their order
@@ -40,10 +36,6 @@ lightInRange (DistantLight l) = true
 lightInRange (PointLight l) = true
 lightInRange (SpotLight l) = positive (l .«specular_exponent»)
 
-pub record LightRange (l : LightSource) : Type 0 where
-  pub numbers : Each IsFinite (lightNumbers l)
-  pub spot : T (lightInRange l)
-
 pub record DiffuseRange (v : DiffuseLighting) : Type 0 where
   pub numbers : Each IsFinite (diffuseNumbers v)
   pub spot : T (lightInRange (v .«light_source»))
@@ -53,13 +45,3 @@ pub record SpecularRange (v : SpecularLighting) : Type 0 where
   pub numbers : Each IsFinite (specularNumbers v)
   pub exponent : T (exponentInRange (v .«specular_exponent»))
   pub spot : T (lightInRange (v .«light_source»))
-
--- the same of an answer; where there is no value there is nothing to say
-
-abbrev pub DiffuseOk : MaybeDiffuseLighting → Type 0
-DiffuseOk (diffuse.Is v) = DiffuseRange v
-DiffuseOk diffuse.No = Unit {0}
-
-abbrev pub SpecularOk : MaybeSpecularLighting → Type 0
-SpecularOk (specular.Is v) = SpecularRange v
-SpecularOk specular.No = Unit {0}

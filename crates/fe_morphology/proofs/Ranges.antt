@@ -17,7 +17,7 @@ use Rattle.fe.specs.Pairs.{pairIn, signsClear, ifPositive}
 use Rattle.fe.proofs.Numbers.{plus-positive}
 use Rattle.fe.proofs.Pairs.{PairHolds, Positive, if-positive}
 use Rattle.fe_morphology.specs.Morphology.{morphologyOperatorOf, onesForZeros, unitRadius, scaledRadius, radiusOf, morphologyWith, morphologyOf}
-use Rattle.fe_morphology.specs.Ranges.{MorphologyOk}
+use Rattle.fe_morphology.specs.ProofRanges.{MorphologyOk}
 
 with-radius : (o : MorphologyOperator) (m : MaybePair) → PairHolds Positive m → MorphologyOk (morphologyWith o m)
 with-radius o (Is p) h = record { radius-x = h .0; radius-y = h .1 }

@@ -8,7 +8,7 @@ use Rattle.num.specs.Constants.{plusZero, one}
 use Rattle.num.specs.Narrowed.{orZero}
 use Rattle.geom.specs.Geometry.{largest}
 use Rattle.svgtree.specs.Values.{Node, numbersValue}
-use Rattle.svgtree.specs.Readers.{lookup, numbersIn, textIn}
+use Rattle.svgtree.specs.Readers.{valueUnder, numbersIn, textIn}
 use Rattle.fe.specs.Keywords.{keyword}
 use Rattle.fe.specs.Pairs.{pairIn, signsClear, ifPositive}
 use Rattle.fe_morphology.specs.declared.MaybeMorphology.the-variants as morphology
@@ -23,5 +23,5 @@ radiusFive = record { depth = 0; tag = EId·FeMorphology; fontSize = plusZero; a
 
 -- a product that is not finite
 pub radius-refused : morphologyOf radiusFive (record { width = largest; height = one }) ≡ morphology.Refused Unrepresentable
-unfolding lookup numbersIn textIn orZero keyword pairIn oneForZero signsClear ifPositive mul le round toBits ofBits
+unfolding valueUnder numbersIn textIn orZero keyword pairIn oneForZero signsClear ifPositive mul le round toBits ofBits
 radius-refused = refl

@@ -19,7 +19,7 @@ use Rattle.fe.specs.declared.pair.MaybePair.{MaybePair}
 use Rattle.fe.specs.declared.pair.MaybePair.the-variants as maybe-pair
 use Rattle.fe_morphology.specs.declared.MaybeMorphology.{MaybeMorphology}
 use Rattle.fe_morphology.specs.declared.MaybeMorphology.the-variants.{Is, Refused}
-use Rattle.fe.specs.Pairs.{both, pairIn, signsClear, ifPositive}
+use Rattle.fe.specs.Pairs.{pairOf, pairIn, signsClear, ifPositive}
 
 -- `erode` where `operator` is absent, and for every text but `dilate`
 abbrev pub morphologyOperatorOf : Node → MorphologyOperator
@@ -30,14 +30,14 @@ unfoldable pub oneForZero : Float → Float
 oneForZero x = cond (nearZero x) one x
 
 abbrev pub onesForZeros : Pair → Pair
-onesForZeros p = both (oneForZero (p .x)) (oneForZero (p .y))
+onesForZeros p = pairOf (oneForZero (p .x)) (oneForZero (p .y))
 
 -- the radius 1 on both axes, scaled
 abbrev pub unitRadius : Size → Pair
-unitRadius scale = both (scale .width) (scale .height)
+unitRadius scale = pairOf (scale .width) (scale .height)
 
 abbrev pub scaledRadius : Pair → Size → Pair
-scaledRadius p scale = both (mul binary32 (p .x) (scale .width)) (mul binary32 (p .y) (scale .height))
+scaledRadius p scale = pairOf (mul binary32 (p .x) (scale .width)) (mul binary32 (p .y) (scale .height))
 
 -- The document: a negative radius disables the effect. The crate: a sign that is set makes both radii 1. Where neither is set, "a radius
 -- product isn't finite (the crate panics)" is a refusal.

@@ -22,15 +22,15 @@ use Rattle.fe.specs.declared.pair.MaybePair.{MaybePair}
 use Rattle.fe.specs.declared.pair.MaybePair.the-variants as maybe-pair
 use Rattle.fe_turbulence.specs.declared.MaybeTurbulence.{MaybeTurbulence}
 use Rattle.fe_turbulence.specs.declared.MaybeTurbulence.the-variants.{Is, Refused}
-use Rattle.fe.specs.Pairs.{both, pairIn, signsClear, ifPositive}
+use Rattle.fe.specs.Pairs.{pairOf, pairIn, signsClear, ifPositive}
 
 -- The document: a negative frequency is an error (not certain). The crate: a sign that is set makes both 0. "base frequency positive in sign but not
 -- finite": the crate panics, here it is refusal 7.
 abbrev pub frequencyFrom : Pair → MaybePair
-frequencyFrom p = cond (signsClear p) (ifPositive p) (maybe-pair.Is (both plusZero plusZero))
+frequencyFrom p = cond (signsClear p) (ifPositive p) (maybe-pair.Is (pairOf plusZero plusZero))
 
 abbrev pub frequencyOf : Option (List Float) → MaybePair
-frequencyOf none = maybe-pair.Is (both plusZero plusZero)
+frequencyOf none = maybe-pair.Is (pairOf plusZero plusZero)
 frequencyOf (some xs) = frequencyFrom (pairIn xs)
 
 -- `turbulence` where `type` is absent, and for every text but `fractalNoise`

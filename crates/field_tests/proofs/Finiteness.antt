@@ -4,33 +4,34 @@ use mathlib.Core.Bool.{Bool, true, false, _&&_}
 use lib.Ieee.{Float, nan, inf, fin, ofBits, lt, le}
 use lib.Ieee.Scale.{finite}
 use Rattle.num.specs.declared.Number.the-variants.{Finite, Not}
-use Rattle.num.specs.Narrowed.{narrowed, numberOf, pick, orZero}
+use Rattle.num.specs.Narrowed.{narrowed, orZero}
+use Rattle.num.specs.Means.{ifFinite, pickNumber}
 use Rattle.num.specs.Sign.{opacityIn}
-use Rattle.geom.specs.Geometry.{zero, validLength, viewBoxLength}
+use Rattle.geom.specs.Geometry.{zeroF32, validLength, viewBoxLength}
 use Rattle.field_tests.specs.Tests.{doubleOk}
 
-picked : (x y : Float) (t : Bool) → pick t (Finite x) Not ≡ Finite y → t ≡ true
+picked : (x y : Float) (t : Bool) → pickNumber t (Finite x) Not ≡ Finite y → t ≡ true
 picked x y true e = refl
 picked x y false e = cc
 
-picked-is : (x y : Float) (t : Bool) → pick t (Finite x) Not ≡ Finite y → x ≡ y
+picked-is : (x y : Float) (t : Bool) → pickNumber t (Finite x) Not ≡ Finite y → x ≡ y
 picked-is x y true e = cc
 picked-is x y false e = cc
 
-picked-not : (x : Float) (t : Bool) → pick t (Finite x) Not ≡ Not → t ≡ false
+picked-not : (x : Float) (t : Bool) → pickNumber t (Finite x) Not ≡ Not → t ≡ false
 picked-not x true e = cc
 picked-not x false e = refl
 
-pub finite-yes : (x y : Float) → numberOf x ≡ Finite y → finite x ≡ true
-unfolding numberOf
+pub finite-yes : (x y : Float) → ifFinite x ≡ Finite y → finite x ≡ true
+unfolding ifFinite
 finite-yes x y e = picked x y (finite x) e
 
-pub finite-is : (x y : Float) → numberOf x ≡ Finite y → x ≡ y
-unfolding numberOf
+pub finite-is : (x y : Float) → ifFinite x ≡ Finite y → x ≡ y
+unfolding ifFinite
 finite-is x y e = picked-is x y (finite x) e
 
-pub finite-no : (x : Float) → numberOf x ≡ Not → finite x ≡ false
-unfolding numberOf
+pub finite-no : (x : Float) → ifFinite x ≡ Not → finite x ≡ false
+unfolding ifFinite
 finite-no x e = picked-not x (finite x) e
 
 -- what is finite when narrowed is finite as given
@@ -46,11 +47,11 @@ and-false false b e = refl
 
 pub no-length : (x : Float) → finite x ≡ false → validLength x ≡ false
 unfolding validLength
-no-length x e = and-false (lt zero x) (finite x) e
+no-length x e = and-false (lt zeroF32 x) (finite x) e
 
 pub no-view-box-length : (x : Float) → finite x ≡ false → viewBoxLength x ≡ false
 unfolding viewBoxLength
-no-view-box-length x e = rw (and-false (lt zero x) (finite x) e)
+no-view-box-length x e = rw (and-false (lt zeroF32 x) (finite x) e)
 
 pub no-opacity : (x : Float) → finite x ≡ false → opacityIn x ≡ false
 unfolding opacityIn le ofBits

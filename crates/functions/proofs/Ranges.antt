@@ -24,7 +24,7 @@ use Rattle.fe_flood.proofs.Opacity.{alpha-ok}
 use Rattle.functions.specs.Records.{Record·ColorFlag, Record·Color, Record·Fallback, GivenLength, Function, FunctionRecord, grayscale, sepia, saturate, hueRotate, invert, opacity, brightness, contrast, blur, dropShadow, flaggedColor, givenShadow, ofAmount, functionBy, codeOf, functionRecord}
 use Rattle.function_amounts.specs.Amounts.{one64, held, positiveOrZero, grayscaleMatrix, sepiaMatrix, invertTable, opacityTable}
 use Rattle.functions.specs.Functions.{asLength, functionState, userLength, colorOr, kindBy, functionKind}
-use Rattle.functions.specs.Ranges.{FunctionRange, colorMatrix, componentTransfer, gaussianBlur, dropShadow as shadow}
+use Rattle.functions.specs.Ranges.{FunctionRange, ofColorMatrix, ofComponentTransfer, ofGaussianBlur, ofDropShadow}
 use Rattle.num.proofs.Each.{_and_}
 use Rattle.function_amounts.proofs.Numbers.{rest-num, grayscale-num, sepia-num, intercept-num}
 
@@ -68,25 +68,25 @@ Alpha (dropShadow v) = T (leb (colorOr (v .color) (v .fallback) .alpha) 255)
 
 by-function : (r : FunctionRecord) (f : Function) → Alpha f → FunctionRange (kindBy r f)
 unfolding grayscaleMatrix sepiaMatrix invertTable opacityTable ofBits isNan
-by-function r (grayscale x) h = colorMatrix {v = Matrix (grayscaleMatrix (held x))} (refl, grayscale-num (held x) (held-finite x))
-by-function r (sepia x) h = colorMatrix {v = Matrix (sepiaMatrix (held x))} (refl, sepia-num (held x) (held-finite x))
-by-function r (saturate x) h = colorMatrix (positive-or-zero (asF32 x))
-by-function r (hueRotate x) h = colorMatrix (number-num x)
+by-function r (grayscale x) h = ofColorMatrix {v = Matrix (grayscaleMatrix (held x))} (refl, grayscale-num (held x) (held-finite x))
+by-function r (sepia x) h = ofColorMatrix {v = Matrix (sepiaMatrix (held x))} (refl, sepia-num (held x) (held-finite x))
+by-function r (saturate x) h = ofColorMatrix (positive-or-zero (asF32 x))
+by-function r (hueRotate x) h = ofColorMatrix (number-num x)
 by-function r (invert x) h =
     let a = held-num x in
     let b = rest-num (held x) (held-finite x) in
-    componentTransfer (a and b and a and b and a and b and tt)
-by-function r (opacity x) h = componentTransfer (tt and held-num x and tt)
+    ofComponentTransfer (a and b and a and b and a and b and tt)
+by-function r (opacity x) h = ofComponentTransfer (tt and held-num x and tt)
 by-function r (brightness x) h =
     let a = number-num x in
-    componentTransfer (a and tt and a and tt and a and tt and tt)
+    ofComponentTransfer (a and tt and a and tt and a and tt and tt)
 by-function r (contrast x) h =
     let a = number-num x in
     let b = intercept-num (asF32 x) (number-finite x) in
-    componentTransfer (a and b and a and b and a and b and tt)
-by-function r (blur l) h = gaussianBlur (record { deviation-x = positive-or-zero (userLength r l); deviation-y = positive-or-zero (userLength r l) })
+    ofComponentTransfer (a and b and a and b and a and b and tt)
+by-function r (blur l) h = ofGaussianBlur (record { deviation-x = positive-or-zero (userLength r l); deviation-y = positive-or-zero (userLength r l) })
 by-function r (dropShadow v) h =
-    shadow
+    ofDropShadow
     (record {
       dx = length-num r (v .dx);
       dy = length-num r (v .dy);

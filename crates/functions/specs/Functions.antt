@@ -45,8 +45,8 @@ userLength r l = convertLength (asLength l) AId·Dx UserSpaceOnUse (functionStat
 abbrev pub deviationOf : FunctionRecord → GivenLength → Float
 deviationOf r l = positiveOrZero (userLength r l)
 
-abbrev pub blurOf : FunctionRecord → GivenLength → GaussianBlurFields
-blurOf r l = record { «std_dev_x» = deviationOf r l; «std_dev_y» = deviationOf r l }
+abbrev pub functionBlur : FunctionRecord → GivenLength → GaussianBlurFields
+functionBlur r l = record { «std_dev_x» = deviationOf r l; «std_dev_y» = deviationOf r l }
 
 -- the function's own colour, or the fallback
 abbrev pub colorOr : Option Color → Color → Color
@@ -77,7 +77,7 @@ kindBy r (invert x) = ComponentTransfer SourceGraphic (onColors (Table (invertTa
 kindBy r (opacity x) = ComponentTransfer SourceGraphic (onAlpha (Table (opacityTable (held x))))
 kindBy r (brightness x) = ComponentTransfer SourceGraphic (onColors (Linear (asF32 x) zero))
 kindBy r (contrast x) = ComponentTransfer SourceGraphic (onColors (Linear (asF32 x) (contrastIntercept (asF32 x))))
-kindBy r (blur l) = GaussianBlur SourceGraphic (blurOf r l)
+kindBy r (blur l) = GaussianBlur SourceGraphic (functionBlur r l)
 kindBy r (dropShadow v) = DropShadow SourceGraphic (functionShadow r v)
 
 abbrev pub functionKind : FunctionRecord → Kind Input

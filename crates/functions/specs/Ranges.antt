@@ -21,7 +21,7 @@ FunctionMatrixRange LuminanceToAlpha = ⊥
 
 -- a function's kind is one of four. Deviations are positive and an opacity lies between 0 and 1, so these are no NaN either.
 pub data FunctionRange : Kind Input → Type 0 where
-  colorMatrix : {a : Input} {v : ColorMatrixKind} → FunctionMatrixRange v → FunctionRange (ColorMatrix a v)
-  componentTransfer : {a : Input} {v : ComponentTransferFields} → Each IsNumber (componentTransferNumbers v) → FunctionRange (ComponentTransfer a v)
-  gaussianBlur : {a : Input} {v : GaussianBlurFields} → GaussianBlurRange v → FunctionRange (GaussianBlur a v)
-  dropShadow : {a : Input} {v : DropShadowFields} → DropShadowRange v → FunctionRange (DropShadow a v)
+  ofColorMatrix : {a : Input} {v : ColorMatrixKind} → FunctionMatrixRange v → FunctionRange (ColorMatrix a v)
+  ofComponentTransfer : {a : Input} {v : ComponentTransferFields} → Each IsNumber (componentTransferNumbers v) → FunctionRange (ComponentTransfer a v)
+  ofGaussianBlur : {a : Input} {v : GaussianBlurFields} → GaussianBlurRange v → FunctionRange (GaussianBlur a v)
+  ofDropShadow : {a : Input} {v : DropShadowFields} → DropShadowRange v → FunctionRange (DropShadow a v)

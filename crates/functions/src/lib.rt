@@ -13,7 +13,7 @@ ghost use Rattle.tree.specs.List.{kindBytes};
 ghost use Rattle.tree.specs.Means.{colorMatrixKindIs, transferFunctionIs};
 ghost use Rattle.tree.specs.Sizes.{colorMatrixKindSize, componentTransferSize};
 ghost use Rattle.functions.specs.Records.{Record·Argument, givenLengthAt, flaggedColor, givenShadow, functionBy, codeOf, functionRecord};
-ghost use Rattle.functions.specs.Functions.{onColors, onAlpha, functionState, userLength, deviationOf, blurOf, colorOr, functionShadow, functionKind};
+ghost use Rattle.functions.specs.Functions.{onColors, onAlpha, functionState, userLength, deviationOf, functionBlur, colorOr, functionShadow, functionKind};
 ghost use Rattle.functions.specs.Refusals.{sizeBy, shadowOk, argumentsOk, functionLayoutOk, functionNumbers, functionNumbersOk, functionRefusal};
 ghost use Rattle.functions.specs.Call.{ConvertedFunction};
 use answer::Answer;
@@ -127,7 +127,7 @@ fn std_deviation(s: &[u8], at: usize) -> f32
 }
 
 pub fn convert_blur_function(s: &[u8]) -> GaussianBlur
-    ensures { λ r. ⌜ r ≡ blurOf (functionRecord (now (s .entry))) (givenLengthAt (now (s .entry)) Record·Argument) ⌝ }
+    ensures { λ r. ⌜ r ≡ functionBlur (functionRecord (now (s .entry))) (givenLengthAt (now (s .entry)) Record·Argument) ⌝ }
 {
     let std_dev = std_deviation(s, field::ARGUMENT);
     GaussianBlur {

@@ -14,7 +14,7 @@ use Rattle.geom.proofs.Gaps.{gap-above}
 use Rattle.geom.specs.declared.Rect.{Rect}
 use Rattle.geom.specs.declared.MaybeRect.{MaybeRect}
 use Rattle.geom.specs.declared.MaybeRect.the-variants.{Is, No}
-use Rattle.geom.specs.Geometry.{zero, largest, side, pick, isRect, ofEdges, ofSize, placed, widthOf, heightOf}
+use Rattle.geom.specs.Geometry.{zeroF32, largest, side, pickRect, isRect, ofEdges, ofSize, placed, widthOf, heightOf}
 
 -- ---- a rectangle that was made exists
 -- what an arm that binds q may say of it
@@ -24,7 +24,7 @@ Made m = (q : Rect) → m ≡ Is q → T (isRect q)
 zero-one : _≡_ {A = ℕ} 0 1 → ⊥
 zero-one z = omega arith
 
-picked : (p : Bool) (x : Rect) (P : Rect → Type 0) → (T p → P x) → (q : Rect) → pick p (Is x) No ≡ Is q → P q
+picked : (p : Bool) (x : Rect) (P : Rect → Type 0) → (T p → P x) → (q : Rect) → pickRect p (Is x) No ≡ Is q → P q
 picked true x P f q e = let i : x ≡ q = cc in subst P i (f tt)
 picked false x P f q e = let z : _≡_ {A = ℕ} 0 1 = cc in absurd (zero-one z)
 
@@ -130,8 +130,8 @@ rect-numbers r t =
     }
 
 -- the width and the height are above zero, where f32 holds the edges
-pub width-above : (r : Rect) → T (isRect r) → EdgesFit r → lt zero (widthOf r) ≡ true
+pub width-above : (r : Rect) → T (isRect r) → EdgesFit r → lt zeroF32 (widthOf r) ≡ true
 width-above r t f = let s = across r t in gap-above (r .right) (r .left) (f .fits-right) (f .fits-left) (s .far) (s .near) (s .ordered)
 
-pub height-above : (r : Rect) → T (isRect r) → EdgesFit r → lt zero (heightOf r) ≡ true
+pub height-above : (r : Rect) → T (isRect r) → EdgesFit r → lt zeroF32 (heightOf r) ≡ true
 height-above r t f = let s = along r t in gap-above (r .bottom) (r .top) (f .fits-bottom) (f .fits-top) (s .far) (s .near) (s .ordered)

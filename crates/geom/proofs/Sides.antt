@@ -5,7 +5,7 @@ use lib.Ieee.{Float, nan, inf, fin, binary64, neg, add, sub, lt}
 use lib.Ieee.Scale.{finite}
 use Rattle.num.specs.Numbers.{IsNumber}
 use Rattle.num.proofs.Laws.{fin-num, inf-num}
-use Rattle.geom.specs.Geometry.{zero, largest, side, validLength, viewBoxLength}
+use Rattle.geom.specs.Geometry.{zeroF32, largest, side, validLength, viewBoxLength}
 
 -- both sides of a `<` that holds are no NaN
 pub lt-left-num : (x y : Float) → lt x y ≡ true → IsNumber x
@@ -51,24 +51,24 @@ unfolding side
 side-not-below a b h = and-no (finite a) (finite b) (lt (sub binary64 b a) largest) ∙ ap (λ (w : Bool). finite a && finite b && w && lt (sub binary64 b a) largest) (sym h)
 
 -- above zero, what lies below the infinity or below the largest f32 is finite
-pub length-below : (x : Float) → lt zero x ≡ true → lt x (inf false) ≡ validLength x
+pub length-below : (x : Float) → lt zeroF32 x ≡ true → lt x (inf false) ≡ validLength x
 unfolding validLength lt
 length-below nan h = refl
 length-below (inf true) h = absurd (true≢false (sym h))
 length-below (inf false) h = refl
 length-below (fin s m e) h = ap (λ (w : Bool). w && true) (sym h)
 
-pub length-not-above : (x : Float) → lt zero x ≡ false → false ≡ validLength x
+pub length-not-above : (x : Float) → lt zeroF32 x ≡ false → false ≡ validLength x
 unfolding validLength
 length-not-above x h = ap (λ (w : Bool). w && finite x) (sym h)
 
-pub view-box-below : (x : Float) → lt zero x ≡ true → lt x largest ≡ viewBoxLength x
+pub view-box-below : (x : Float) → lt zeroF32 x ≡ true → lt x largest ≡ viewBoxLength x
 unfolding viewBoxLength lt
 view-box-below nan h = refl
 view-box-below (inf true) h = absurd (true≢false (sym h))
 view-box-below (inf false) h = refl
 view-box-below (fin s m e) h = ap (λ (w : Bool). w && true && lt (fin s m e) largest) (sym h)
 
-pub view-box-not-above : (x : Float) → lt zero x ≡ false → false ≡ viewBoxLength x
+pub view-box-not-above : (x : Float) → lt zeroF32 x ≡ false → false ≡ viewBoxLength x
 unfolding viewBoxLength
 view-box-not-above x h = ap (λ (w : Bool). w && finite x && lt x largest) (sym h)

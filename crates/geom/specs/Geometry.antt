@@ -10,8 +10,8 @@ use Rattle.geom.specs.declared.MaybeRect.{MaybeRect}
 use Rattle.geom.specs.declared.MaybeRect.the-variants.{Is, No}
 
 -- zero, and the largest f32: (2 ^ 24 - 1) * 2 ^ 104
-abbrev pub zero : Float
-zero = fin false 0 (pos 0)
+abbrev pub zeroF32 : Float
+zeroF32 = fin false 0 (pos 0)
 
 abbrev pub largest : Float
 largest = fin false 16777215 (pos 104)
@@ -22,9 +22,9 @@ unfoldable pub side : Float → Float → Bool
 side a b = finite a && finite b && lt a b && lt (sub binary64 b a) largest
 
 -- x where the test holds, and else y
-abbrev pub pick : Bool → MaybeRect → MaybeRect → MaybeRect
-pick true x y = x
-pick false x y = y
+abbrev pub pickRect : Bool → MaybeRect → MaybeRect → MaybeRect
+pickRect true x y = x
+pickRect false x y = y
 
 -- a rectangle exists if left and right are the edges of a side, and top and bottom too
 abbrev pub isRect : Rect → Bool
@@ -34,7 +34,7 @@ isRect r = side (r .left) (r .right) && side (r .top) (r .bottom)
 unfoldable pub ofEdges : Float → Float → Float → Float → MaybeRect
 ofEdges left top right bottom =
     let r : Rect = record { left = left; top = top; right = right; bottom = bottom } in
-    pick (isRect r) (Is r) No
+    pickRect (isRect r) (Is r) No
 
 -- the rectangle with this corner and size, if it exists: its edges are x, y, x + width, y + height, each rounded once
 abbrev pub ofSize : Float → Float → Float → Float → MaybeRect
@@ -62,8 +62,8 @@ placed r b =
 
 -- a length: above zero and finite
 unfoldable pub validLength : Float → Bool
-validLength x = lt zero x && finite x
+validLength x = lt zeroF32 x && finite x
 
 -- the width or the height of a view box: above zero, finite, and not the largest f32
 unfoldable pub viewBoxLength : Float → Bool
-viewBoxLength x = lt zero x && finite x && lt x largest
+viewBoxLength x = lt zeroF32 x && finite x && lt x largest

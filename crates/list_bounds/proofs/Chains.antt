@@ -16,15 +16,14 @@ use Rattle.num.specs.Narrowed.{orZero}
 use Rattle.num.specs.Sign.{nearZero}
 use Rattle.geom.specs.declared.Rect.{Rect}
 use Rattle.svgtree.specs.Values.{Value, absent, textValue, numberValue, numbersValue, lengthValue, colorValue, triesValue, Attribute, Node}
-use Rattle.svgtree.specs.Readers.{numbersIn, lookup, textOf, numberOf, numbersOf, childNodes}
+use Rattle.svgtree.specs.Readers.{numbersIn, valueUnder, textOf, numberOf, numbersOf, childNodes}
 use Rattle.tree.specs.Kinds.{TransferFunction, Identity, ConvolveMatrixData, ConvolveMatrixFields}
 use Rattle.region.specs.declared.Frame.{Frame}
 use Rattle.subregion.specs.declared.Subregion.{Subregion}
 use Rattle.subregion.specs.declared.Subregion.the-variants as region
 use Rattle.subregion.specs.Subregions.{regionOf, scaleOf}
 use Rattle.fe.specs.Attributes.{isWord}
-use Rattle.child.specs.Means.{inOf}
-use Rattle.child.specs.Child.{Child}
+use Rattle.child.specs.Child.{Child, inOf}
 use Rattle.fe.specs.Keywords.{keyword}
 use Rattle.fe_color.specs.ComponentTransfer.{orEmpty, tableValuesOf, transferFunctionOf, wanted, functionsOf, lastOr, componentTransferOf}
 use Rattle.fe_kernel.specs.declared.order.Order.{Order}
@@ -49,10 +48,10 @@ use Rattle.fe_turbulence.specs.declared.MaybeTurbulence.the-variants as turbule
 use Rattle.fe_morphology.specs.Morphology.{morphologyOf}
 use Rattle.fe_displacement_map.specs.DisplacementMap.{displacementMapOf}
 use Rattle.fe_turbulence.specs.Turbulence.{turbulenceOf}
-use Rattle.elements.specs.Elements.{Made, made, unsupported, elements, kindOf, convolveMade, diffuseMade, specularMade, morphologyMade, displacementMade, turbulenceMade}
+use Rattle.elements.specs.Elements.{ElementKind, made, noPrimitive, elements, kindOf, convolveMade, diffuseMade, specularMade, morphologyMade, displacementMade, turbulenceMade}
 use Rattle.elements.specs.Elements as element
 use Rattle.chain.specs.Chain as chain
-use Rattle.chain.specs.Chain.{Step, pass, end, count, kindStep, regionStep, stepOf, Chain, kept, put, follow}
+use Rattle.chain.specs.Chain.{Step, pass, end, count, kindStep, regionStep, stepOf, Chain, kept, keepFirst, follow}
 use Rattle.ranges.proofs.Children.{All, by-tag}
 use Rattle.num.proofs.Each.{_and_}
 use Rattle.list_bounds.proofs.Lists.{tableBytes, tablesBytes, varying, childrenLong}
@@ -64,12 +63,12 @@ abbrev ListLong : ℕ → Option (List Float) → Type 0
 ListLong w none = Unit {0}
 ListLong w (some xs) = 4 * length xs ≤ w
 
-lookup-long : (id : ℕ) (as′ : List Attribute) → valueNumbers (lookup id as′) ≤ attributesNumbers as′
-unfolding lookup
+lookup-long : (id : ℕ) (as′ : List Attribute) → valueNumbers (valueUnder id as′) ≤ attributesNumbers as′
+unfolding valueUnder
 lookup-long id [] = omega arith
 lookup-long id (a ∷ as′) = go (eqb (a .id) id) (lookup-long id as′)
   where
-    go : (b : Bool) → valueNumbers (lookup id as′) ≤ attributesNumbers as′ → valueNumbers (cond b (a .value) (lookup id as′)) ≤ valueNumbers (a .value) + attributesNumbers as′
+    go : (b : Bool) → valueNumbers (valueUnder id as′) ≤ attributesNumbers as′ → valueNumbers (cond b (a .value) (valueUnder id as′)) ≤ valueNumbers (a .value) + attributesNumbers as′
     go true h = omega arith
     go false h = omega arith
 
@@ -84,7 +83,7 @@ numbers-in w (colorValue k) h = tt
 numbers-in w (triesValue t) h = tt
 
 numbers-long : (n : Node) (id : ℕ) → ListLong (nodeNumbers n) (numbersOf n id)
-numbers-long n id = numbers-in (nodeNumbers n) (lookup id (n .attributes)) (lookup-long id (n .attributes))
+numbers-long n id = numbers-in (nodeNumbers n) (valueUnder id (n .attributes)) (lookup-long id (n .attributes))
 
 -- ---- feComponentTransfer: a child is the function of one channel
 
@@ -193,9 +192,9 @@ convolve-of w n (some xs) h =
 
 -- ---- what is made of a node and its children
 
-abbrev MadeLong : ℕ → Made → Type 0
+abbrev MadeLong : ℕ → ElementKind → Type 0
 MadeLong w (made k) = varying k ≤ w
-MadeLong w unsupported = Unit {0}
+MadeLong w noPrimitive = Unit {0}
 MadeLong w (element.refused why) = Unit {0}
 
 module _ (f : Frame) (n : Node) (children : List Node) where
@@ -267,9 +266,9 @@ StepLong w end = Unit {0}
 StepLong w (chain.refused why) = Unit {0}
 StepLong w (count c) = varying (c .kind) ≤ w
 
-kind-step : (w : ℕ) (n : Node) (r : Rect) (m : Made) → MadeLong w m → StepLong w (kindStep n r m)
+kind-step : (w : ℕ) (n : Node) (r : Rect) (m : ElementKind) → MadeLong w m → StepLong w (kindStep n r m)
 kind-step w n r (made k) h = h
-kind-step w n r unsupported h = tt
+kind-step w n r noPrimitive h = tt
 kind-step w n r (element.refused why) h = tt
 
 abbrev ChainLong : ℕ → Chain → Type 0
@@ -280,7 +279,7 @@ more-long : (w w′ : ℕ) (c : Chain) → w ≤ w′ → ChainLong w c → Chai
 more-long w w′ (chain.refused why) h k = tt
 more-long w w′ (kept cs) h k = omega arith
 
-put-long : (w v : ℕ) (c : Child) (rest : Chain) → varying (c .kind) ≤ v → ChainLong w rest → ChainLong (816 + v + w) (put c rest)
+put-long : (w v : ℕ) (c : Child) (rest : Chain) → varying (c .kind) ≤ v → ChainLong w rest → ChainLong (816 + v + w) (keepFirst c rest)
 put-long w v c (chain.refused why) h k = tt
 put-long w v c (kept cs) h k = omega arith
 

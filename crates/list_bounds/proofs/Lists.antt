@@ -8,12 +8,11 @@ use mathlib.Core.List.{List, [], _∷_, map}
 use lib.ListN.{length, length-append, length-map}
 use Rattle.bits.specs.Bytes.{bytes16}
 use Rattle.tree.specs.Input.{Input, inputBytes}
-use Rattle.tree.specs.Scalars.{optionSize}
 use Rattle.tree.specs.Fields.{fieldBytes}
-use Rattle.tree.specs.Sizes.{fieldSize, colorMatrixKindSize, transferFunctionSize, compositeOperatorSize, lightSourceSize}
+use Rattle.tree.specs.Sizes.{fieldSize, colorMatrixKindSize, transferFunctionSize, compositeOperatorSize, lightSourceSize, optionSize, total}
 use Rattle.tree.specs.Kinds.{ColorMatrixKind, Matrix, Saturate, HueRotate, LuminanceToAlpha, TransferFunction, Identity, Table, Discrete, Linear, Gamma, ComponentTransferFields}
 use Rattle.tree.specs.Kinds.{Kind, Blend, ColorMatrix, ComponentTransfer, Composite, ConvolveMatrix, DiffuseLighting, DisplacementMap, DropShadow, Flood, GaussianBlur, Image, Merge, Morphology, Offset, SpecularLighting, Tile, Turbulence, Primitive, mapKind, Inputs, Nothing, One, Two, Vec, inputsIn, inputList, inputsOf}
-use Rattle.tree.specs.List.{inputsBytes, kindBytes, primitiveBytes, primitiveSize, total, listBytes}
+use Rattle.tree.specs.List.{inputsBytes, kindBytes, primitiveBytes, primitiveSize, listBytes}
 use Rattle.tree.specs.declared.OptionF32.{OptionF32}
 use Rattle.tree.specs.declared.OptionF32.the-variants as optional
 use Rattle.tree.specs.declared.CompositeOperator.{CompositeOperator}
@@ -25,10 +24,11 @@ use Rattle.child.specs.Child.{Child}
 use Rattle.naming.specs.Names.{Results, namesSoFar, after}
 use Rattle.naming.specs.Inputs.{resolve}
 use Rattle.list_primitives.specs.Primitives.{primitiveOf, primitivesFrom}
-use Rattle.list_read.specs.Records.{form1, inputFits, inputsFit}
+use Rattle.list_read.specs.Records.{form1}
+use Rattle.list_read.specs.Write.{inputFits, inputsFit}
 use Rattle.list_read.proofs.Forms.{lawful1, and-left, and-right, text-size}
 use Rattle.list_read.proofs.Sizes.{input-size, inputs-size}
-use Rattle.list_read_back.specs.Reading.{ColorMatrixWithin, KindWithin, Within, AllWithin}
+use Rattle.list_read_back.specs.Within.{ColorMatrixWithin, KindWithin, Within, AllWithin}
 
 -- ---- the bytes of a kind that have no bound of their own
 

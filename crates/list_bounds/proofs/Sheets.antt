@@ -15,8 +15,8 @@ use Rattle.svgtree.specs.Values.{Value, absent, textValue, numberValue, numbers
 use Rattle.svgtree.specs.Parse.{single, singlesFrom, lengthAt, colorAt, triedAt, valueAt, attributeKind, attributeLength, valuePlace, attributeAt, placesOf, nodeFrom, countOf, pairPlace, offsetOf, nodeAt, nodesFrom}
 use Rattle.sheet_layout.specs.Tests.{sum}
 use Rattle.field_tests.specs.Tests.{all}
-use Rattle.sheet_layout.specs.Records.{entryAt, entrySize, NodeRecord, recordAt, recordsFrom}
-use Rattle.sheet_layout.specs.Layout.{recordOk, headerOk, touch, depthsOk, layoutOk}
+use Rattle.sheet_layout.specs.Records.{entryAt, entrySize, NodeRecord, nodeRecordAt, nodeRecordsFrom}
+use Rattle.sheet_layout.specs.Layout.{nodeRecordOk, headerOk, touch, depthsOk, layoutOk}
 use Rattle.sheet_layout.proofs.Offsets.{record-filled, records-ok}
 use Rattle.sheet_accepted.proofs.Layouts.{singles-length}
 
@@ -71,9 +71,9 @@ module _ (s : List ℕ) where
 
   -- ---- a node: its attributes fill its record
 
-  node-long : (i : ℕ) → T (recordOk (recordAt s i)) → nodeNumbers (nodeAt s i) ≤ recordAt s i .size
-  unfolding recordAt nodeFrom
-  node-long i h = omega (arith, attributes-long (placesOf s (offsetOf s i)), record-filled (recordAt s i) h)
+  node-long : (i : ℕ) → T (nodeRecordOk (nodeRecordAt s i)) → nodeNumbers (nodeAt s i) ≤ nodeRecordAt s i .size
+  unfolding nodeRecordAt nodeFrom
+  node-long i h = omega (arith, attributes-long (placesOf s (offsetOf s i)), record-filled (nodeRecordAt s i) h)
 
   -- ---- the nodes: their records touch, and the last ends the sheet
 
@@ -81,12 +81,12 @@ module _ (s : List ℕ) where
   sizesOf [] = 0
   sizesOf (r ∷ rs) = r .size + sizesOf rs
 
-  nodes-long : (i n : ℕ) → T (all recordOk (recordsFrom s i n)) → nodesNumbers (nodesFrom s i n) ≤ sizesOf (recordsFrom s i n)
-  unfolding all recordsFrom nodesFrom sizesOf
+  nodes-long : (i n : ℕ) → T (all nodeRecordOk (nodeRecordsFrom s i n)) → nodesNumbers (nodesFrom s i n) ≤ sizesOf (nodeRecordsFrom s i n)
+  unfolding all nodeRecordsFrom nodesFrom sizesOf
   nodes-long i zero h = omega arith
   nodes-long i (suc n) h =
-      let ok = recordOk (recordAt s i) in
-      let rest = all recordOk (recordsFrom s (i + 1) n) in
+      let ok = nodeRecordOk (nodeRecordAt s i) in
+      let rest = all nodeRecordOk (nodeRecordsFrom s (i + 1) n) in
       omega (arith, node-long i (and-l ok rest h), nodes-long (i + 1) n (and-r ok rest h))
 
   records-end : (at end : ℕ) (rs : List NodeRecord) → T (touch at end rs) → at + sizesOf rs ≡ end
@@ -97,7 +97,7 @@ module _ (s : List ℕ) where
   pub numbers-fit : T (layoutOk s) → nodesNumbers (nodesFrom s 0 (countOf s)) ≤ length s
   unfolding layoutOk
   numbers-fit h =
-      let rs = recordsFrom s 0 (countOf s) in
+      let rs = nodeRecordsFrom s 0 (countOf s) in
       let front = touch (pairPlace (countOf s)) (length s) rs in
-      let touching = and-r (headerOk s) front (and-l (headerOk s && front) (all recordOk rs) (and-l (headerOk s && front && all recordOk rs) (depthsOk false rs) h)) in
+      let touching = and-r (headerOk s) front (and-l (headerOk s && front) (all nodeRecordOk rs) (and-l (headerOk s && front && all nodeRecordOk rs) (depthsOk false rs) h)) in
       omega (arith, nodes-long 0 (countOf s) (records-ok s h), records-end (pairPlace (countOf s)) (length s) rs touching)

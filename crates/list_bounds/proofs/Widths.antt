@@ -12,11 +12,13 @@ use Rattle.bits.specs.Utf8.{utf8}
 use Rattle.tree.specs.Input.{Name, Input, SourceGraphic, SourceAlpha, Reference}
 use Rattle.tree.specs.Kinds.{ColorMatrixKind, Matrix, Saturate, HueRotate, LuminanceToAlpha, TransferFunction, Identity, Table, Discrete, Linear, Gamma}
 use Rattle.tree.specs.Kinds.{Kind, Blend, ColorMatrix, ComponentTransfer, Composite, ConvolveMatrix, DiffuseLighting, DisplacementMap, DropShadow, Flood, GaussianBlur, Image, Merge, Morphology, Offset, SpecularLighting, Tile, Turbulence, Primitive, inputsOf}
-use Rattle.tree.specs.List.{primitiveSize, pairs, total, listBytes}
+use Rattle.tree.specs.List.{primitiveSize, pairsBytes, listBytes}
+use Rattle.tree.specs.Sizes.{total}
 use Rattle.tree.proofs.Lengths.{length-list}
-use Rattle.list_read.specs.Records.{form1, textFits, inputsFit}
+use Rattle.list_read.specs.Records.{form1, textFits}
+use Rattle.list_read.specs.Write.{inputsFit}
 use Rattle.list_read.proofs.Forms.{and-left, and-right}
-use Rattle.list_read_back.specs.Reading.{TransferWithin, ColorMatrixWithin, KindWithin, AllWithin}
+use Rattle.list_read_back.specs.Within.{TransferWithin, ColorMatrixWithin, KindWithin, AllWithin}
 use Rattle.list_bounds.specs.Bounds.{mostBytes, pairNumbers, tableCounts, matrixCounts, kindCounts, inputCounts, recordCounts, listCounts, EachBelow}
 
 below-append : (bound : ℕ) (ms ns : List ℕ) → EachBelow bound ms → EachBelow bound ns → EachBelow bound (ms ++ ns)
@@ -30,8 +32,8 @@ unfoldable pub wordsOf : List ℕ → List ℕ
 wordsOf [] = []
 wordsOf (n ∷ ns) = bytes32 n ++ wordsOf ns
 
-pub pairs-are : (at : ℕ) (ks : List ℕ) → pairs at ks ≡ wordsOf (pairNumbers at ks)
-unfolding pairs pairNumbers wordsOf
+pub pairs-are : (at : ℕ) (ks : List ℕ) → pairsBytes at ks ≡ wordsOf (pairNumbers at ks)
+unfolding pairsBytes pairNumbers wordsOf
 pairs-are at [] = refl
 pairs-are at (k ∷ ks) = simp append-assoc (rw (pairs-are (at + k) ks))
 

@@ -9,7 +9,8 @@ use Rattle.tree.specs.Input.{Name}
 use Rattle.tree.specs.Kinds as spec
 use Rattle.tree.specs.Places.{kindPlace}
 use Rattle.tree.specs.Fields.{fieldBytes}
-use Rattle.child.specs.Means.{inOf, kindIs, mergeEnd}
+use Rattle.child.specs.Means.{kindIs, mergeEnd}
+use Rattle.child.specs.Child.{inOf}
 use Rattle.child.specs.declared.Kind.{Kind}
 use Rattle.list_fields.specs.declared.Inputs.{Inputs}
 use Rattle.list_fields.specs.declared.Inputs.the-variants as inputs

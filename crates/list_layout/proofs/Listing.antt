@@ -13,7 +13,8 @@ use lib.Seq.{take-length}
 use Rattle.bits.specs.Bytes.{bytesFrom, le16, le32}
 use Rattle.bits.proofs.Runs.{length-bytesFrom, bytesFrom-step, bytesFrom-none, bytesFrom-part}
 use Rattle.list_read.specs.Read.{Got, outside, got, andThen, onlyIf, readByte, read16, read32, readMany}
-use Rattle.list_read.specs.Records.{Form, form2, formOf, ListRecord, readRecord}
+use Rattle.list_read.specs.Records.{Form, ListRecord, readRecord}
+use Rattle.list_read.specs.Forms.{form2, formOf}
 use Rattle.list_read.specs.Lists.{readOpening, readRecords, readCounted, readList}
 use Rattle.list_layout.specs.After.{isGot, recordInLayout, recordsInLayout, countedInLayout, inLayout}
 use Rattle.list_read.specs.declared.ListForm.{ListForm}

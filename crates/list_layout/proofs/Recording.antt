@@ -13,14 +13,15 @@ use Rattle.bits.proofs.Runs.{bytesFrom-step, bytesFrom-none}
 use Rattle.list_read.specs.Read.{Got, outside, got, andThen, onlyIf, readByte, readBelow, readMany, readText}
 use Rattle.list_read.specs.Layout.{byteBelow, Field, item, enum, Layout, layoutOf, walkItem, walkField, walkFields, atEnd}
 use Rattle.tree.specs.Input.{Name}
-use Rattle.list_read.specs.Records.{formOf, readInputs, readKind, readRecord}
-use Rattle.list_layout.specs.After.{placeIs, rest, isGot, afterBytes, afterItem, afterEnum, afterField, afterFields, afterKindFields, afterText, afterKindInputs, ended, recordInLayout, FirstByte}
+use Rattle.list_read.specs.Records.{readInputs, readKind, readRecord}
+use Rattle.list_read.specs.Forms.{formOf}
+use Rattle.list_layout.specs.After.{placeIs, restOf, isGot, afterBytes, afterItem, afterEnum, afterField, afterFields, afterKindFields, afterText, afterKindInputs, ended, recordInLayout, FirstByte}
 use Rattle.list_read.specs.declared.ListForm.{ListForm}
 use Rattle.list_layout.specs.declared.Place.the-variants.{At}
 use Rattle.list_layout.proofs.Walking.{rest-then}
 
 -- whether something is read goes by what is left after its first part
-pub is-then : {A B : Type 0} (g : Got A) (f : A → List ℕ → Got B) (F : Option (List ℕ) → Bool) → F none ≡ false → ((a : A) (r : List ℕ) → isGot (f a r) ≡ F (some r)) → isGot (andThen g f) ≡ F (rest g)
+pub is-then : {A B : Type 0} (g : Got A) (f : A → List ℕ → Got B) (F : Option (List ℕ) → Bool) → F none ≡ false → ((a : A) (r : List ℕ) → isGot (f a r) ≡ F (some r)) → isGot (andThen g f) ≡ F (restOf g)
 is-then outside f F h k = sym h
 is-then (got a r) f F h k = k a r
 
@@ -35,7 +36,7 @@ unfolding afterItem afterEnum
 field-none (item i) = refl
 field-none (enum cases) = refl
 
-field-some : (f : Field) (xs : List ℕ) → afterField f (some xs) ≡ rest (walkField f xs)
+field-some : (f : Field) (xs : List ℕ) → afterField f (some xs) ≡ restOf (walkField f xs)
 unfolding afterItem afterEnum walkField
 field-some (item i) xs = refl
 field-some (enum cases) xs = refl
@@ -44,16 +45,16 @@ fields-none : (fs : List Field) → afterFields fs none ≡ none
 fields-none [] = refl
 fields-none (f ∷ fs) = ap (afterFields fs) (field-none f) ∙ fields-none fs
 
-fields-then : (fs : List Field) (g : Got (List ℕ)) → ((r : List ℕ) → afterFields fs (some r) ≡ rest (walkFields fs r)) → afterFields fs (rest g) ≡ rest (andThen g (λ ns r. andThen (walkFields fs r) (λ ms r′. got (ns ++ ms) r′)))
+fields-then : (fs : List Field) (g : Got (List ℕ)) → ((r : List ℕ) → afterFields fs (some r) ≡ restOf (walkFields fs r)) → afterFields fs (restOf g) ≡ restOf (andThen g (λ ns r. andThen (walkFields fs r) (λ ms r′. got (ns ++ ms) r′)))
 fields-then fs outside h = fields-none fs
 fields-then fs (got ns r) h = h r ∙ sym (rest-then (walkFields fs r) (λ ms. ns ++ ms))
 
-fields-after : (fs : List Field) (xs : List ℕ) → afterFields fs (some xs) ≡ rest (walkFields fs xs)
+fields-after : (fs : List Field) (xs : List ℕ) → afterFields fs (some xs) ≡ restOf (walkFields fs xs)
 unfolding walkFields
 fields-after [] xs = refl
 fields-after (f ∷ fs) xs = ap (afterFields fs) (field-some f xs) ∙ fields-then fs (walkField f xs) (fields-after fs)
 
-end-is : {A : Type 0} (g : Got A) → atEnd g ≡ ended (rest g)
+end-is : {A : Type 0} (g : Got A) → atEnd g ≡ ended (restOf g)
 end-is outside = refl
 end-is (got a []) = refl
 end-is (got a (x ∷ r)) = refl

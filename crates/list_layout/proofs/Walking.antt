@@ -16,14 +16,15 @@ use Rattle.bits.proofs.Runs.{length-bytesFrom, bytesFrom-step, bytesFrom-none}
 use Rattle.list_read.specs.Read.{Got, outside, got, andThen, onlyIf, readByte, readBelow, read16, read32, readMany, readText}
 use Rattle.list_read.specs.Layout.{Item, byteBelow, anyBytes, f32s, vec, option, enum, walkItem, walkItems, walkField, exactly, counted, layoutOf}
 use Rattle.tree.specs.Input.{InputOf, Reference}
-use Rattle.list_read.specs.Records.{ReferenceIn, formOf, readInput, readInputs}
-use Rattle.list_layout.specs.After.{placeIs, rest, onward, afterBytes, afterItem, afterItems, afterEnum, afterField, afterKindFields, afterText, afterReference, afterInput, afterInputs, FirstByte, FirstTwo}
+use Rattle.list_read.specs.Records.{readInput, readInputs}
+use Rattle.list_read.specs.Forms.{ReferenceIn, formOf}
+use Rattle.list_layout.specs.After.{placeIs, restOf, onward, afterBytes, afterItem, afterItems, afterEnum, afterField, afterKindFields, afterText, afterReference, afterInput, afterInputs, FirstByte, FirstTwo}
 use Rattle.list_read.specs.declared.ListForm.{ListForm}
 use Rattle.list_read.specs.declared.ListForm.the-variants.{One, Two}
 use Rattle.list_layout.specs.declared.Place.the-variants.{At}
 
 -- what is read does not matter for what is left
-pub rest-then : {A B : Type 0} (g : Got A) (f : A → B) → rest (andThen g (λ a r. got (f a) r)) ≡ rest g
+pub rest-then : {A B : Type 0} (g : Got A) (f : A → B) → restOf (andThen g (λ a r. got (f a) r)) ≡ restOf g
 rest-then outside f = refl
 rest-then (got a r) f = refl
 
@@ -32,24 +33,24 @@ nothing r = got [] r
 
 -- runs of bytes
 
-rest-of-run : (n : ℕ) (s : List ℕ) (i left : ℕ) → n ≤ left → rest (readMany readByte n (bytesFrom s i left)) ≡ some (bytesFrom s (i + n) (left - n))
+rest-of-run : (n : ℕ) (s : List ℕ) (i left : ℕ) → n ≤ left → restOf (readMany readByte n (bytesFrom s i left)) ≡ some (bytesFrom s (i + n) (left - n))
 unfolding readMany
 rest-of-run zero s i left h =
     let e : i + zero ≡ i = add-zero i in
     let d : left - zero ≡ left = omega arith in
     rw (e, d)
 rest-of-run (suc n) s i left h =
-    let r : rest (readMany readByte n (bytesFrom s (i + 1) (left - 1))) ≡ some (bytesFrom s (i + 1 + n) (left - 1 - n)) = rest-of-run n s (i + 1) (left - 1) (omega arith) in
+    let r : restOf (readMany readByte n (bytesFrom s (i + 1) (left - 1))) ≡ some (bytesFrom s (i + 1 + n) (left - 1 - n)) = rest-of-run n s (i + 1) (left - 1) (omega arith) in
     let e : i + 1 + n ≡ i + suc n = omega arith in
     let d : left - 1 - n ≡ left - suc n = omega arith in
     let p : 0 < left = omega arith in
-    ap (λ (xs : List ℕ). rest (andThen (readByte xs) (λ b r. andThen (readMany readByte n r) (λ bs r′. got (b ∷ bs) r′)))) (bytesFrom-step s i left p)
+    ap (λ (xs : List ℕ). restOf (andThen (readByte xs) (λ b r. andThen (readMany readByte n r) (λ bs r′. got (b ∷ bs) r′)))) (bytesFrom-step s i left p)
     ∙ rest-then (readMany readByte n (bytesFrom s (i + 1) (left - 1))) (λ bs. getD s i 0 ∷ bs)
     ∙ r
     ∙ ap (λ (k : ℕ). some (bytesFrom s k (left - 1 - n))) e
     ∙ ap (λ (k : ℕ). some (bytesFrom s (i + suc n) k)) d
 
-pub run-short : (n : ℕ) (xs : List ℕ) → length xs < n → rest (readMany readByte n xs) ≡ none
+pub run-short : (n : ℕ) (xs : List ℕ) → length xs < n → restOf (readMany readByte n xs) ≡ none
 unfolding readMany
 run-short zero xs h = absurd (omega arith)
 run-short (suc n) [] h = refl
@@ -109,11 +110,11 @@ unfolding afterBytes afterItem walkItem
 any-is n none = refl
 any-is n (some xs) = sym (rest-then (readMany readByte n xs) (λ bs. []))
 
-run-cons : (n x : ℕ) (r : List ℕ) → rest (readMany readByte (suc n) (x ∷ r)) ≡ rest (readMany readByte n r)
+run-cons : (n x : ℕ) (r : List ℕ) → restOf (readMany readByte (suc n) (x ∷ r)) ≡ restOf (readMany readByte n r)
 unfolding readMany
 run-cons n x r = rest-then (readMany readByte n r) (λ bs. x ∷ bs)
 
-word-run : (n : ℕ) → ((xs : List ℕ) → rest (readMany readByte (4 * n) xs) ≡ rest (readMany read32 n xs)) → (xs : List ℕ) → rest (readMany readByte (suc (suc (suc (suc (4 * n))))) xs) ≡ rest (readMany read32 (suc n) xs)
+word-run : (n : ℕ) → ((xs : List ℕ) → restOf (readMany readByte (4 * n) xs) ≡ restOf (readMany read32 n xs)) → (xs : List ℕ) → restOf (readMany readByte (suc (suc (suc (suc (4 * n))))) xs) ≡ restOf (readMany read32 (suc n) xs)
 unfolding readMany read32
 word-run n ih [] = refl
 word-run n ih (a ∷ []) = refl
@@ -127,12 +128,12 @@ word-run n ih (a ∷ b ∷ c ∷ d ∷ r) =
     ∙ ih r
     ∙ sym (rest-then (readMany read32 n r) (λ ns. (a + b * 256 + c * 65536 + d * 16777216) ∷ ns))
 
-words-run : (n : ℕ) (xs : List ℕ) → rest (readMany readByte (4 * n) xs) ≡ rest (readMany read32 n xs)
+words-run : (n : ℕ) (xs : List ℕ) → restOf (readMany readByte (4 * n) xs) ≡ restOf (readMany read32 n xs)
 unfolding readMany
 words-run zero xs = refl
 words-run (suc n) xs =
     let e : 4 * suc n ≡ suc (suc (suc (suc (4 * n)))) = omega arith in
-    ap (λ (k : ℕ). rest (readMany readByte k xs)) e ∙ word-run n (words-run n) xs
+    ap (λ (k : ℕ). restOf (readMany readByte k xs)) e ∙ word-run n (words-run n) xs
 
 pub f32s-are : (n : ℕ) (o : Option (List ℕ)) → afterBytes (4 * n) o ≡ afterItem (f32s n) o
 unfolding afterBytes afterItem walkItem
@@ -180,7 +181,7 @@ option-is n none h = refl
 option-is n (some []) h = refl
 option-is n (some (x ∷ xs)) h = rw (← h) (by (ltb n 2))
   where
-    by : (b : Bool) → onward (λ ys. rest (readMany read32 n ys)) (rest (andThen (onlyIf b (got n xs)) (λ b r. nothing r))) ≡ rest (andThen (onlyIf b (got n xs)) (λ n r. readMany read32 n r))
+    by : (b : Bool) → onward (λ ys. restOf (readMany read32 n ys)) (restOf (andThen (onlyIf b (got n xs)) (λ b r. nothing r))) ≡ restOf (andThen (onlyIf b (got n xs)) (λ n r. readMany read32 n r))
     by true = refl
     by false = refl
 
@@ -191,11 +192,11 @@ unfolding afterItem
 items-none [] = refl
 items-none (i ∷ is) = items-none is
 
-items-then : (is : List Item) (g : Got (List ℕ)) → ((r : List ℕ) → afterItems is (some r) ≡ rest (walkItems is r)) → afterItems is (rest g) ≡ rest (andThen g (λ ns r. andThen (walkItems is r) (λ ms r′. got (ns ++ ms) r′)))
+items-then : (is : List Item) (g : Got (List ℕ)) → ((r : List ℕ) → afterItems is (some r) ≡ restOf (walkItems is r)) → afterItems is (restOf g) ≡ restOf (andThen g (λ ns r. andThen (walkItems is r) (λ ms r′. got (ns ++ ms) r′)))
 items-then is outside h = items-none is
 items-then is (got ns r) h = h r ∙ sym (rest-then (walkItems is r) (λ ms. ns ++ ms))
 
-items-after : (is : List Item) (xs : List ℕ) → afterItems is (some xs) ≡ rest (walkItems is xs)
+items-after : (is : List Item) (xs : List ℕ) → afterItems is (some xs) ≡ restOf (walkItems is xs)
 unfolding afterItem walkItems
 items-after [] xs = refl
 items-after (i ∷ is) xs = items-then is (walkItem i xs) (items-after is)
@@ -206,7 +207,7 @@ enum-is cases k none h = items-none (getD cases k [])
 enum-is cases k (some []) h = items-none (getD cases k [])
 enum-is cases k (some (x ∷ xs)) h = rw (← h) (by (ltb k (length cases)))
   where
-    by : (b : Bool) → afterItems (getD cases k []) (rest (andThen (onlyIf b (got k xs)) (λ b r. nothing r))) ≡ rest (andThen (onlyIf b (got k xs)) (λ k r. walkItems (getD cases k []) r))
+    by : (b : Bool) → afterItems (getD cases k []) (restOf (andThen (onlyIf b (got k xs)) (λ b r. nothing r))) ≡ restOf (andThen (onlyIf b (got k xs)) (λ k r. walkItems (getD cases k []) r))
     by true = items-after (getD cases k []) xs
     by false = items-none (getD cases k [])
 
@@ -281,11 +282,11 @@ place-some s end i zs h = by (leb i end) h
     by true h = cc
     by false h = absurd (let z : _≡_ {A = ℕ} 0 1 = cc in omega arith)
 
-text-run : (s : List ℕ) (i left n : ℕ) → utf8 (bytesFrom s i n) ≡ true → rest (readMany readByte n (bytesFrom s i left)) ≡ rest (andThen (readMany readByte n (bytesFrom s i left)) (λ t r. onlyIf (utf8 t) (got t r)))
+text-run : (s : List ℕ) (i left n : ℕ) → utf8 (bytesFrom s i n) ≡ true → restOf (readMany readByte n (bytesFrom s i left)) ≡ restOf (andThen (readMany readByte n (bytesFrom s i left)) (λ t r. onlyIf (utf8 t) (got t r)))
 text-run s i left n u =
     elim (decLe n left) [ yes k ↦ rw (run-is n s i left k, u) | no k ↦ rw (run-outside n (bytesFrom s i left) (rw (length-bytesFrom s i left) (omega arith))) ]
 
-text-none : (s : List ℕ) (i left n : ℕ) → utf8 (bytesFrom s i n) ≡ false → none ≡ rest (andThen (readMany readByte n (bytesFrom s i left)) (λ t r. onlyIf (utf8 t) (got t r)))
+text-none : (s : List ℕ) (i left n : ℕ) → utf8 (bytesFrom s i n) ≡ false → none ≡ restOf (andThen (readMany readByte n (bytesFrom s i left)) (λ t r. onlyIf (utf8 t) (got t r)))
 text-none s i left n u =
     elim (decLe n left) [ yes k ↦ rw (run-is n s i left k, u) | no k ↦ rw (run-outside n (bytesFrom s i left) (rw (length-bytesFrom s i left) (omega arith))) ]
 
@@ -308,11 +309,11 @@ module _ (n : ℕ) where
   module _ (s : List ℕ) (end from : ℕ) (small : n ≤ 255) where
     pub text-yes : (o r : Option (List ℕ)) → FirstTwo o n → placeIs s end (At from) ≡ afterBytes 2 o → r ≡ afterBytes n (placeIs s end (At from)) → utf8 (bytesFrom s from n) ≡ true → r ≡ afterText o
     unfolding afterText readText read16 afterBytes readMany
-    text-yes none r h q e u = e ∙ ap (onward (λ xs. rest (readMany readByte n xs))) q
-    text-yes (some []) r h q e u = e ∙ ap (onward (λ xs. rest (readMany readByte n xs))) q
-    text-yes (some (x ∷ [])) r h q e u = e ∙ ap (onward (λ xs. rest (readMany readByte n xs))) q
+    text-yes none r h q e u = e ∙ ap (onward (λ xs. restOf (readMany readByte n xs))) q
+    text-yes (some []) r h q e u = e ∙ ap (onward (λ xs. restOf (readMany readByte n xs))) q
+    text-yes (some (x ∷ [])) r h q e u = e ∙ ap (onward (λ xs. restOf (readMany readByte n xs))) q
     text-yes (some (x ∷ y ∷ zs)) r h q e u =
-        rw (← h, le-leb n 255 small) (e ∙ ap (onward (λ xs. rest (readMany readByte n xs))) q ∙ rw (place-some s end from zs q) (text-run s from (end - from) n u))
+        rw (← h, le-leb n 255 small) (e ∙ ap (onward (λ xs. restOf (readMany readByte n xs))) q ∙ rw (place-some s end from zs q) (text-run s from (end - from) n u))
 
     pub text-not : (o : Option (List ℕ)) → FirstTwo o n → placeIs s end (At from) ≡ afterBytes 2 o → utf8 (bytesFrom s from n) ≡ false → none ≡ afterText o
     unfolding afterText readText read16 afterBytes readMany
@@ -360,7 +361,7 @@ module _ (f : ListForm) where
   input-source k (some []) h e = refl
   input-source k (some (x ∷ xs)) h e = rw (← h) (by (ltb k 3) refl)
     where
-      by : (b : Bool) → ltb k 3 ≡ b → rest (andThen (onlyIf b (got k xs)) (λ b r. nothing r)) ≡ afterInput f (some (k ∷ xs))
+      by : (b : Bool) → ltb k 3 ≡ b → restOf (andThen (onlyIf b (got k xs)) (λ b r. nothing r)) ≡ afterInput f (some (k ∷ xs))
       by true i = input-case k xs (ltb-true k 3 i) e
       by false i = input-over k xs i
 
@@ -376,28 +377,28 @@ module _ (f : ListForm) where
   unfolding afterInputs
   inputs-end n o e = ap (λ (k : ℕ). afterInputs f k o) e
 
-  pub inputs-are : (n : ℕ) (o : Option (List ℕ)) → afterInputs f n o ≡ onward (λ xs. rest (readInputs (formOf f) (exactly n) xs)) o
+  pub inputs-are : (n : ℕ) (o : Option (List ℕ)) → afterInputs f n o ≡ onward (λ xs. restOf (readInputs (formOf f) (exactly n) xs)) o
   unfolding afterInputs afterInput readInputs readMany
   inputs-are zero none = refl
   inputs-are zero (some xs) = refl
   inputs-are (suc n) none = inputs-are n none
-  inputs-are (suc n) (some xs) = inputs-are n (rest (readInput (formOf f) xs)) ∙ by (readInput (formOf f) xs)
+  inputs-are (suc n) (some xs) = inputs-are n (restOf (readInput (formOf f) xs)) ∙ by (readInput (formOf f) xs)
     where
-      by : (g : Got (InputOf (ReferenceIn f))) → onward (λ xs. rest (readMany (readInput (formOf f)) n xs)) (rest g) ≡ rest (andThen g (λ a r. andThen (readMany (readInput (formOf f)) n r) (λ as′ r′. got (a ∷ as′) r′)))
+      by : (g : Got (InputOf (ReferenceIn f))) → onward (λ xs. restOf (readMany (readInput (formOf f)) n xs)) (restOf g) ≡ restOf (andThen g (λ a r. andThen (readMany (readInput (formOf f)) n r) (λ as′ r′. got (a ∷ as′) r′)))
       by outside = refl
       by (got a r) = sym (rest-then (readMany (readInput (formOf f)) n r) (λ is. a ∷ is))
 
   -- the inputs of a merge, behind their count
 
   module _ (n : ℕ) where
-    pub merge-long : (o : Option (List ℕ)) → FirstTwo o n → 511 < n → none ≡ onward (λ xs. rest (readInputs (formOf f) counted xs)) o
+    pub merge-long : (o : Option (List ℕ)) → FirstTwo o n → 511 < n → none ≡ onward (λ xs. restOf (readInputs (formOf f) counted xs)) o
     unfolding readInputs read16
     merge-long none h k = refl
     merge-long (some []) h k = refl
     merge-long (some (x ∷ [])) h k = refl
     merge-long (some (x ∷ y ∷ zs)) h k = rw (← h, lt-leb n 511 k)
 
-    pub merge-is : (o : Option (List ℕ)) → FirstTwo o n → n ≤ 511 → onward (λ xs. rest (readInputs (formOf f) (exactly n) xs)) (afterBytes 2 o) ≡ onward (λ xs. rest (readInputs (formOf f) counted xs)) o
+    pub merge-is : (o : Option (List ℕ)) → FirstTwo o n → n ≤ 511 → onward (λ xs. restOf (readInputs (formOf f) (exactly n) xs)) (afterBytes 2 o) ≡ onward (λ xs. restOf (readInputs (formOf f) counted xs)) o
     unfolding readInputs read16 afterBytes readMany
     merge-is none h k = refl
     merge-is (some []) h k = refl

@@ -8,7 +8,8 @@ use lib.Dec.{leb}
 use Rattle.bits.specs.Bytes.{bytesFrom}
 use Rattle.list_read.specs.Read.{Got, outside, got, readByte, readMany, readText}
 use Rattle.list_read.specs.Layout.{Item, Field, item, enum, Layout, walkItem, walkField}
-use Rattle.list_read.specs.Records.{formOf, readInput, readInputs, readRecord}
+use Rattle.list_read.specs.Records.{readInput, readInputs, readRecord}
+use Rattle.list_read.specs.Forms.{formOf}
 use Rattle.list_read.specs.Lists.{readRecords, readCounted, readList}
 use Rattle.list_read.specs.declared.ListForm.{ListForm}
 use Rattle.list_layout.specs.declared.Place.{Place}
@@ -37,9 +38,9 @@ abbrev pub placeIs : List ℕ → ℕ → Place → Option (List ℕ)
 placeIs s end (At i) = cond (leb i end) (some (bytesFrom s i (end - i))) none
 placeIs s end Outside = none
 
-abbrev pub rest : {A : Type 0} → Got A → Option (List ℕ)
-rest outside = none
-rest (got a r) = some r
+abbrev pub restOf : {A : Type 0} → Got A → Option (List ℕ)
+restOf outside = none
+restOf (got a r) = some r
 
 abbrev pub onward : (List ℕ → Option (List ℕ)) → Option (List ℕ) → Option (List ℕ)
 onward f none = none
@@ -54,17 +55,17 @@ ended (some (x ∷ xs)) = false
 -- n bytes, the items of the layout, and the fields of a kind
 
 unfoldable pub afterBytes : ℕ → Option (List ℕ) → Option (List ℕ)
-afterBytes n o = onward (λ xs. rest (readMany readByte n xs)) o
+afterBytes n o = onward (λ xs. restOf (readMany readByte n xs)) o
 
 unfoldable pub afterItem : Item → Option (List ℕ) → Option (List ℕ)
-afterItem i o = onward (λ xs. rest (walkItem i xs)) o
+afterItem i o = onward (λ xs. restOf (walkItem i xs)) o
 
 abbrev pub afterItems : List Item → Option (List ℕ) → Option (List ℕ)
 afterItems [] o = o
 afterItems (i ∷ is) o = afterItems is (afterItem i o)
 
 unfoldable pub afterEnum : List (List Item) → Option (List ℕ) → Option (List ℕ)
-afterEnum cases o = onward (λ xs. rest (walkField (enum cases) xs)) o
+afterEnum cases o = onward (λ xs. restOf (walkField (enum cases) xs)) o
 
 abbrev pub afterField : Field → Option (List ℕ) → Option (List ℕ)
 afterField (item i) o = afterItem i o
@@ -81,13 +82,13 @@ afterKindFields (some l) o = afterFields (l .fields) o
 -- a text, and the inputs
 
 unfoldable pub afterText : Option (List ℕ) → Option (List ℕ)
-afterText o = onward (λ xs. rest (readText xs)) o
+afterText o = onward (λ xs. restOf (readText xs)) o
 
 unfoldable pub afterReference : ListForm → Option (List ℕ) → Option (List ℕ)
-afterReference f o = onward (λ xs. rest (formOf f .readReference xs)) o
+afterReference f o = onward (λ xs. restOf (formOf f .readReference xs)) o
 
 unfoldable pub afterInput : ListForm → Option (List ℕ) → Option (List ℕ)
-afterInput f o = onward (λ xs. rest (readInput (formOf f) xs)) o
+afterInput f o = onward (λ xs. restOf (readInput (formOf f) xs)) o
 
 unfoldable pub afterInputs : ListForm → ℕ → Option (List ℕ) → Option (List ℕ)
 afterInputs f zero o = o
@@ -95,7 +96,7 @@ afterInputs f (suc n) o = afterInputs f n (afterInput f o)
 
 abbrev pub afterKindInputs : ListForm → Option Layout → Option (List ℕ) → Option (List ℕ)
 afterKindInputs f none o = none
-afterKindInputs f (some l) o = onward (λ xs. rest (readInputs (formOf f) (l .inputs) xs)) o
+afterKindInputs f (some l) o = onward (λ xs. restOf (readInputs (formOf f) (l .inputs) xs)) o
 
 -- k is the first byte, or the first two as a number, where there are any
 

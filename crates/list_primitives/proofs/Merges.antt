@@ -6,7 +6,7 @@ use lib.ListN.{length, length-map}
 use Rattle.tree.specs.List.{inputRun}
 use Rattle.svgtree.specs.Parse.{nodeAt, nodesFrom}
 use Rattle.svgtree.proofs.Following.{nodes-more}
-use Rattle.child.specs.Means.{inOf}
+use Rattle.child.specs.Child.{inOf}
 use Rattle.naming.proofs.Claim.{map-snoc}
 use Rattle.list_primitives.specs.Tables.{inputBytesAt}
 

@@ -8,8 +8,9 @@ ghost use Rattle.bits.specs.Patch.{Put};
 ghost use Rattle.bits.specs.Texts.{maybeTextIs};
 ghost use Rattle.svgtree.specs.Parse.{nodesFrom};
 ghost use Rattle.tree.specs.List.{inputRun, inputsBytes, primitiveBytes};
-ghost use Rattle.child.specs.Means.{inOf, mergeEnd};
-ghost use Rattle.results.specs.Means.{Table};
+ghost use Rattle.child.specs.Means.{mergeEnd};
+ghost use Rattle.child.specs.Child.{inOf};
+ghost use Rattle.results.specs.Means.{NameTable};
 ghost use Rattle.list_fields.specs.Means.{inputsIs, inputsEnd};
 ghost use Rattle.list_primitives.specs.Tables.{inputBytesAt, primitiveAt};
 use bits::MaybeText;
@@ -36,14 +37,14 @@ use svgtree::text_of;
 // One input, resolved with the names of the first n records.
 
 fn one_size(s: &[u8], names: &[u64; 512], n: u16, t: MaybeText) -> u32
-    requires { ⌜ Table (now s) (now names) n ⌝ }
+    requires { ⌜ NameTable (now s) (now names) n ⌝ }
     ensures { λ r. ⌜ (r ≡ length (inputBytesAt (now (s .entry)) (now (names .entry)) n (maybeTextIs (now (s .entry)) t))) × (r ≤ 258) ⌝ }
 {
     input_size(resolve_input(s, names, n, t))
 }
 
 fn put_one(s: &[u8], names: &[u64; 512], n: u16, t: MaybeText, out: &mut [u8], at: usize) -> usize
-    requires { ⌜ Table (now s) (now names) n ⌝ }
+    requires { ⌜ NameTable (now s) (now names) n ⌝ }
     requires { ⌜ at + length (inputBytesAt (now s) (now names) n (maybeTextIs (now s) t)) ≤ length (now out) ⌝ }
     ensures { λ r. ⌜ Put (now (out .entry)) at (length (inputBytesAt (now (s .entry)) (now (names .entry)) n (maybeTextIs (now (s .entry)) t))) (inputBytesAt (now (s .entry)) (now (names .entry)) n (maybeTextIs (now (s .entry)) t)) (now (out .exit)) r ⌝ }
 {
@@ -53,7 +54,7 @@ fn put_one(s: &[u8], names: &[u64; 512], n: u16, t: MaybeText, out: &mut [u8], a
 // Those of `count` nodes from number `first` on.
 
 fn run_size(s: &[u8], names: &[u64; 512], n: u16, first: u16, count: u16) -> u32
-    requires { ⌜ Table (now s) (now names) n × (first + count ≤ 512) ⌝ }
+    requires { ⌜ NameTable (now s) (now names) n × (first + count ≤ 512) ⌝ }
     ensures { λ r. ⌜ (r ≡ length (inputRun (inputBytesAt (now (s .entry)) (now (names .entry)) n) (map inOf (nodesFrom (now (s .entry)) first count)))) × (r ≤ 258 * count) ⌝ }
 {
     let mut sum: u32 = 0;
@@ -75,7 +76,7 @@ fn put_run(
     out: &mut [u8],
     at: usize,
 ) -> usize
-    requires { ⌜ Table (now s) (now names) n × (first + count ≤ 512) ⌝ }
+    requires { ⌜ NameTable (now s) (now names) n × (first + count ≤ 512) ⌝ }
     requires { ⌜ at + length (inputRun (inputBytesAt (now s) (now names) n) (map inOf (nodesFrom (now s) first count))) ≤ length (now out) ⌝ }
     ensures { λ r. ⌜ Put (now (out .entry)) at (length (inputRun (inputBytesAt (now (s .entry)) (now (names .entry)) n) (map inOf (nodesFrom (now (s .entry)) first count)))) (inputRun (inputBytesAt (now (s .entry)) (now (names .entry)) n) (map inOf (nodesFrom (now (s .entry)) first count))) (now (out .exit)) r ⌝ }
 {
@@ -92,7 +93,7 @@ fn put_run(
 // The inputs of a kind: none, one, two, or a Vec with its count.
 
 fn inputs_size(s: &[u8], names: &[u64; 512], n: u16, inputs: Inputs) -> u32
-    requires { ⌜ Table (now s) (now names) n × (inputsEnd inputs ≤ 512) ⌝ }
+    requires { ⌜ NameTable (now s) (now names) n × (inputsEnd inputs ≤ 512) ⌝ }
     ensures { λ r. ⌜ (r ≡ length (inputsBytes (inputBytesAt (now (s .entry)) (now (names .entry)) n) (inputsIs (now (s .entry)) inputs))) × (r < 2 ^ 20) ⌝ }
 {
     match inputs {
@@ -111,7 +112,7 @@ fn put_inputs(
     out: &mut [u8],
     at: usize,
 ) -> usize
-    requires { ⌜ Table (now s) (now names) n × (inputsEnd inputs ≤ 512) ⌝ }
+    requires { ⌜ NameTable (now s) (now names) n × (inputsEnd inputs ≤ 512) ⌝ }
     requires { ⌜ at + length (inputsBytes (inputBytesAt (now s) (now names) n) (inputsIs (now s) inputs)) ≤ length (now out) ⌝ }
     ensures { λ r. ⌜ Put (now (out .entry)) at (length (inputsBytes (inputBytesAt (now (s .entry)) (now (names .entry)) n) (inputsIs (now (s .entry)) inputs))) (inputsBytes (inputBytesAt (now (s .entry)) (now (names .entry)) n) (inputsIs (now (s .entry)) inputs)) (now (out .exit)) r ⌝ }
 {
@@ -132,7 +133,7 @@ fn put_inputs(
 // A record: rectangle, colour interpolation, name, and the kind: its place, its inputs and its other fields.
 
 pub fn primitive_size(s: &[u8], names: &[u64; 512], n: u16, name: ResultName, child: Child) -> u32
-    requires { ⌜ Table (now s) (now names) n × (mergeEnd (child .kind) ≤ 512) ⌝ }
+    requires { ⌜ NameTable (now s) (now names) n × (mergeEnd (child .kind) ≤ 512) ⌝ }
     ensures { λ r. ⌜ (r ≡ length (primitiveBytes (primitiveAt (now (s .entry)) (now (names .entry)) n name child))) × (r < 2 ^ 22) ⌝ }
 {
     let kind = child.kind;
@@ -148,7 +149,7 @@ pub fn put_primitive(
     out: &mut [u8],
     at: usize,
 ) -> usize
-    requires { ⌜ Table (now s) (now names) n × (mergeEnd (child .kind) ≤ 512) ⌝ }
+    requires { ⌜ NameTable (now s) (now names) n × (mergeEnd (child .kind) ≤ 512) ⌝ }
     requires { ⌜ at + length (primitiveBytes (primitiveAt (now s) (now names) n name child)) ≤ length (now out) ⌝ }
     ensures { λ r. ⌜ Put (now (out .entry)) at (length (primitiveBytes (primitiveAt (now (s .entry)) (now (names .entry)) n name child))) (primitiveBytes (primitiveAt (now (s .entry)) (now (names .entry)) n name child)) (now (out .exit)) r ⌝ }
 {

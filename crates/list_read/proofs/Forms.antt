@@ -11,7 +11,8 @@ use Rattle.bits.specs.Bytes.{bytes16}
 use Rattle.bits.specs.Utf8.{utf8}
 use Rattle.list_read.specs.Read.{Got, got, read16, readText}
 use Rattle.tree.specs.Input.{textBytes}
-use Rattle.list_read.specs.Records.{Form, form1, form2, formOf, textFits}
+use Rattle.list_read.specs.Records.{Form, form1, textFits}
+use Rattle.list_read.specs.Forms.{form2, formOf}
 use Rattle.list_read.specs.declared.ListForm.{ListForm}
 use Rattle.list_read.specs.declared.ListForm.the-variants.{One, Two}
 use Rattle.list_read.proofs.Back.{read16-back, text-back}

@@ -3,8 +3,10 @@ use Prim.Native.Nat.{ℕ}
 use mathlib.Core.Path.{_≡_, sym, ap, _∙_, subst}
 use mathlib.Core.List.{List, []}
 use Rattle.list_read.specs.Read.{got}
-use Rattle.list_read.specs.Records.{ReferenceIn, formOf, ListRecord}
-use Rattle.list_read.specs.Lists.{readList, writeList, ListInLayout}
+use Rattle.list_read.specs.Records.{ListRecord}
+use Rattle.list_read.specs.Forms.{ReferenceIn, formOf}
+use Rattle.list_read.specs.Lists.{readList}
+use Rattle.list_read.specs.Write.{writeList, ListInLayout}
 use Rattle.list_read.specs.declared.ListForm.{ListForm}
 use Rattle.list_read.proofs.Forth.{Holds, AllBytes}
 use Rattle.list_read.proofs.Forms.{lawful}

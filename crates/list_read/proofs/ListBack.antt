@@ -7,8 +7,9 @@ use borrow.Author.Tests.{eq-eqb, le-leb}
 use lib.ListN.{length, length-append}
 use Rattle.bits.specs.Bytes.{bytes16, bytes32}
 use Rattle.list_read.specs.Read.{got}
-use Rattle.list_read.specs.Records.{Form, ListRecord, writeRecord}
-use Rattle.list_read.specs.Lists.{readOpening, readRecords, readCounted, readList, writePairs, writeRecords, writeList, AllInLayout, ListInLayout}
+use Rattle.list_read.specs.Records.{Form, ListRecord}
+use Rattle.list_read.specs.Write.{writeRecord, writePairs, writeRecords, writeList, AllInLayout, ListInLayout}
+use Rattle.list_read.specs.Lists.{readOpening, readRecords, readCounted, readList}
 use Rattle.list_read.proofs.Back.{read16-back, read32-back, run-back-at}
 use Rattle.list_read.proofs.Forms.{Lawful}
 use Rattle.list_read.proofs.RecordBack.{record-back}

@@ -8,8 +8,9 @@ use lib.Dec.{leb, eqb}
 use lib.ListN.{length, length-append}
 use Rattle.bits.specs.Bytes.{bytes16, bytes32}
 use Rattle.list_read.specs.Read.{readByte, read16, read32, readMany}
-use Rattle.list_read.specs.Records.{Form, ListRecord, readRecord, writeRecord}
-use Rattle.list_read.specs.Lists.{readOpening, readRecords, readCounted, readList, writePairs, writeRecords, writeList, AllInLayout, ListInLayout}
+use Rattle.list_read.specs.Records.{Form, ListRecord, readRecord}
+use Rattle.list_read.specs.Write.{writeRecord, writePairs, writeRecords, writeList, AllInLayout, ListInLayout}
+use Rattle.list_read.specs.Lists.{readOpening, readRecords, readCounted, readList}
 use Rattle.list_read.proofs.Forth.{Holds, holds-then, holds-only-if, AllBytes, Front, fronts, byte-forth, read16-forth, read32-forth, run-forth}
 use Rattle.list_read.proofs.Forms.{Lawful, holds-map}
 use Rattle.list_read.proofs.RecordForth.{Read, record-forth}

@@ -11,7 +11,8 @@ use Rattle.list_read.specs.Read.{got, readMany}
 use Rattle.list_read.specs.Layout.{Arity, exactly, counted, layoutOf}
 use Rattle.tree.specs.Input.{InputOf, SourceGraphic, SourceAlpha, Reference, textBytes}
 use Rattle.tree.specs.List.{inputRun}
-use Rattle.list_read.specs.Records.{Form, ListRecord, readInput, writeInput, readInputs, writeInputs, readKind, readRecord, writeKindInputs, writeRecord, arityFits, inputFits, inputsFit, InLayout}
+use Rattle.list_read.specs.Records.{Form, ListRecord, readInput, readInputs, readKind, readRecord}
+use Rattle.list_read.specs.Write.{writeInput, writeInputs, writeKindInputs, writeRecord, arityFits, inputFits, inputsFit, InLayout}
 use Rattle.list_read.proofs.Back.{read16-back, below-back, run-back-at}
 use Rattle.list_read.proofs.Forms.{Lawful, and-left, and-right, text-reads}
 

@@ -13,7 +13,8 @@ use Rattle.list_read.specs.Read.{readByte, readBelow, read16, readMany, 
 use Rattle.list_read.specs.Layout.{Arity, exactly, counted, Layout, layoutOf, walkFields, atEnd}
 use Rattle.tree.specs.Input.{Name, InputOf, textBytes}
 use Rattle.tree.specs.List.{inputRun}
-use Rattle.list_read.specs.Records.{Form, ListRecord, textFits, readInput, writeInput, inputCase, readInputs, writeInputs, readKind, readRecord, writeRecord, arityFits, inputFits, inputsFit, InLayout}
+use Rattle.list_read.specs.Records.{Form, ListRecord, textFits, readInput, inputCase, readInputs, readKind, readRecord}
+use Rattle.list_read.specs.Write.{writeInput, writeInputs, writeRecord, arityFits, inputFits, inputsFit, InLayout}
 use Rattle.list_read.proofs.Forth.{Holds, holds-then, holds-only-if, AllBytes, Front, fronts, byte-forth, below-forth, read16-forth, run-forth}
 use Rattle.list_read.proofs.Forms.{Lawful, and-both, text-read, holds-map}
 

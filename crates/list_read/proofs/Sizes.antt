@@ -13,8 +13,8 @@ use Rattle.list_read.specs.Read.{Got, outside, got, readByte, readBelow,
 use Rattle.list_read.specs.Layout.{Item, byteBelow, anyBytes, f32s, vec, option, Field, item, enum, Arity, exactly, counted, Layout, layouts, layoutOf, walkItem, walkItems, walkField, walkFields, atEnd}
 use Rattle.tree.specs.Input.{InputOf, SourceGraphic, SourceAlpha, Reference, textBytes}
 use Rattle.tree.specs.List.{inputRun}
-use Rattle.list_read.specs.Records.{Form, ListRecord, writeInput, writeInputs, writeRecord, arityFits, inputFits, inputsFit, InLayout}
-use Rattle.list_read.specs.Lists.{writeRecords, AllInLayout}
+use Rattle.list_read.specs.Records.{Form, ListRecord}
+use Rattle.list_read.specs.Write.{writeInput, writeInputs, writeRecord, arityFits, inputFits, inputsFit, InLayout, writeRecords, AllInLayout}
 use Rattle.list_read.proofs.Forth.{Holds, holds-then, holds-only-if}
 use Rattle.list_read.proofs.Forms.{Lawful, and-left, and-right, text-size, holds-map}
 

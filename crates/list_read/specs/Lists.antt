@@ -1,11 +1,10 @@
--- A list as bytes, its reader and its writer, over the form. Definitions only.
-use Prim.Native.Nat.{ℕ, zero, suc, _+_, _*_, _≤_}
-use mathlib.Core.List.{List, [], _∷_, _++_}
+-- A list as bytes, and how it is read, over the form. Definitions only.
+use Prim.Native.Nat.{ℕ, zero, suc, _+_, _*_}
+use mathlib.Core.List.{List, [], _∷_}
 use lib.Dec.{leb, eqb}
 use lib.ListN.{length}
-use Rattle.bits.specs.Bytes.{bytes16, bytes32}
 use Rattle.list_read.specs.Read.{Got, outside, got, andThen, onlyIf, readByte, read16, read32, readMany}
-use Rattle.list_read.specs.Records.{Form, ListRecord, readRecord, writeRecord, InLayout}
+use Rattle.list_read.specs.Records.{Form, ListRecord, readRecord}
 
 -- these bytes in front
 unfoldable pub readOpening : List ℕ → List ℕ → Got (List ℕ)
@@ -38,23 +37,3 @@ module _ {R : Type 0} (f : Form R) where
   -- offsets count from the list's first byte
   unfoldable pub readList : List ℕ → Got (List (ListRecord R))
   readList xs = andThen (readOpening (f .opening) xs) (λ none′ r. readCounted (length (f .opening)) r)
-
-  unfoldable pub writePairs : ℕ → List (ListRecord R) → List ℕ
-  writePairs at [] = []
-  writePairs at (r ∷ rs) = bytes32 at ++ (bytes32 (length (writeRecord f r)) ++ writePairs (at + length (writeRecord f r)) rs)
-
-  unfoldable pub writeRecords : List (ListRecord R) → List ℕ
-  writeRecords [] = []
-  writeRecords (r ∷ rs) = writeRecord f r ++ writeRecords rs
-
-  unfoldable pub writeList : List (ListRecord R) → List ℕ
-  writeList rs = f .opening ++ (bytes16 (length rs) ++ (writePairs (length (f .opening) + 2 + 8 * length rs) rs ++ writeRecords rs))
-
-unfoldable pub AllInLayout : {R : Type 0} → Form R → List (ListRecord R) → Type 0
-AllInLayout f [] = Unit {0}
-AllInLayout f (r ∷ rs) = InLayout f r × AllInLayout f rs
-
--- a list in the layout: it can be written and read back
-pub record ListInLayout {R : Type 0} (f : Form R) (rs : List (ListRecord R)) : Type 0 where
-  pub few : length rs ≤ 512
-  pub each : AllInLayout f rs

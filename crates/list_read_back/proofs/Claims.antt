@@ -10,16 +10,17 @@ use lib.Ieee.{Float, binary32, nanBits, ofBits, toBits}
 use lib.Ieee.Bits.{ofBits-toBits, toBits-lt, nanBits-is}
 use Rattle.tree.specs.Kinds.{Primitive}
 use Rattle.tree.specs.List as list
-use Rattle.naming.specs.Agreement as names
-use Rattle.list_primitives.specs.Primitives.{recordNames}
+use Rattle.naming.specs.Agreement.{ChildNames, Agrees}
+use Rattle.list_primitives.specs.NamesOnly.{recordNames}
 use Rattle.num.specs.Numbers.{Each, IsNumber}
 use Rattle.ranges.specs.Numbers as ranges
 use Rattle.list_read.specs.Read.{Got, outside, got}
 use Rattle.list_read.specs.Records.{form1}
 use Rattle.list_read.specs.Lists.{readList}
 use Rattle.list_read.proofs.Back.{read32-back}
-use Rattle.list_read_back.specs.Reading.{listRecordOf, AllWithin}
-use Rattle.list_read_back.specs.Claim.{readNames, NoNan, Fits, Reads}
+use Rattle.list_read_back.specs.Reading.{listRecordOf}
+use Rattle.list_read_back.specs.Within.{AllWithin, Fits, Reads}
+use Rattle.list_read_back.specs.Claim.{readNames, NoNan}
 use Rattle.list_read_back.proofs.Walks.{patternOf, read-pattern}
 use Rattle.list_read_back.proofs.ReadBack.{read-back, list-numbers}
 
@@ -59,8 +60,8 @@ names-of [] = refl
 names-of (p ∷ ps) = rw (names-of ps)
 
 -- what is proved of the primitives holds of what is read from an output that begins with their list
-pub reads : (ps : List Primitive) (out rest : List ℕ) (children : List names.Child)
-    → out ≡ list.listBytes ps ++ rest → length ps ≤ 512 → AllWithin ps → names.Agrees children (map recordNames ps) → Each IsNumber (ranges.listNumbers ps) → Each Fits (ranges.listNumbers ps)
+pub reads : (ps : List Primitive) (out rest : List ℕ) (children : List ChildNames)
+    → out ≡ list.listBytes ps ++ rest → length ps ≤ 512 → AllWithin ps → Agrees children (map recordNames ps) → Each IsNumber (ranges.listNumbers ps) → Each Fits (ranges.listNumbers ps)
     → Reads out (length (list.listBytes ps)) children
 reads ps out rest children o few w a n h =
     record {

@@ -32,9 +32,9 @@ use Rattle.list_read.specs.Layout.{layoutOf}
 use Rattle.list_read.specs.Patterns.{walkKind, patternsIn}
 use Rattle.list_read.proofs.Back.{read32-back}
 use Rattle.list_read.proofs.Forms.{and-both}
-use Rattle.list_read_back.specs.Reading.{listRecordOf, KindWithin, AllWithin}
-use Rattle.list_read_back.specs.Claim.{Fits}
-use Rattle.list_read_back.specs.Ranges.{at, lightOk, kernelOk, namedOk, RecordRange, RecordRanges}
+use Rattle.list_read_back.specs.Reading.{listRecordOf}
+use Rattle.list_read_back.specs.Within.{KindWithin, AllWithin, Fits}
+use Rattle.list_read_back.specs.Ranges.{numberAt, lightOk, kernelOk, namedOk, RecordRange, RecordRanges}
 use Rattle.list_read_back.proofs.Walks.{kind-walk}
 use Rattle.list_read_back.proofs.Claims.{patterns-back}
 
@@ -75,7 +75,7 @@ kernel v few h =
     let high : m .rows ≤ m .columns * m .rows = rw (mul-comm (m .columns) (m .rows)) (le-mul-of-pos-right (m .rows) (omega arith)) in
     let all : length (m .numbers ++ (v .divisor ∷ v .bias ∷ [])) ≡ m .columns * m .rows + 2 = length-append (m .numbers) (v .divisor ∷ v .bias ∷ []) ∙ ap (λ (k : ℕ). k + 2) n in
     let end : m .columns * m .rows ≡ length (m .numbers) + 0 = omega arith in
-    let divisor : at (m .numbers ++ (v .divisor ∷ v .bias ∷ [])) (m .columns * m .rows) ≡ v .divisor = ap (λ (k : ℕ). at (m .numbers ++ (v .divisor ∷ v .bias ∷ [])) k) end ∙ getD-append-add (m .numbers) (v .divisor ∷ v .bias ∷ []) 0 plusZero in
+    let divisor : numberAt (m .numbers ++ (v .divisor ∷ v .bias ∷ [])) (m .columns * m .rows) ≡ v .divisor = ap (λ (k : ℕ). numberAt (m .numbers ++ (v .divisor ∷ v .bias ∷ [])) k) end ∙ getD-append-add (m .numbers) (v .divisor ∷ v .bias ∷ []) 0 plusZero in
     rw (kernel-bytes v, kernel-words (m .«target_x») (m .«target_y») (m .columns) (m .rows) (numbersBytes (m .numbers) ++ (bytesF (v .divisor) ++ (bytesF (v .bias) ++ (edgeModePlace (v .«edge_mode») ∷ boolByte (v .«preserve_alpha») ∷ [])))) (omega arith) (omega arith) (omega arith) (omega arith), eq-eqb _ _ all, lt-ltb _ _ tx, lt-ltb _ _ ty, divisor, h .divisor)
 
 -- by kind

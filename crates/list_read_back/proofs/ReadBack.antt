@@ -21,12 +21,14 @@ use Rattle.tree.proofs.Lengths.{length-rect}
 use Rattle.ranges.specs.Numbers as ranges
 use Rattle.list_read.specs.Read.{got, read32, readMany}
 use Rattle.list_read.specs.Layout.{Layout, layoutOf, atEnd}
-use Rattle.list_read.specs.Records.{form1, arityFits, InLayout}
-use Rattle.list_read.specs.Lists.{readList, AllInLayout}
+use Rattle.list_read.specs.Records.{form1}
+use Rattle.list_read.specs.Write.{arityFits, InLayout, AllInLayout}
+use Rattle.list_read.specs.Lists.{readList}
 use Rattle.list_read.specs.Patterns.{walkKind, patternsIn, recordPatterns, listPatterns}
 use Rattle.list_read.specs.declared.ListForm.the-variants.{One}
 use Rattle.list_read.proofs.Inverse.{read-written}
-use Rattle.list_read_back.specs.Reading.{listRecordOf, KindWithin, Within, AllWithin}
+use Rattle.list_read_back.specs.Reading.{listRecordOf}
+use Rattle.list_read_back.specs.Within.{KindWithin, Within, AllWithin}
 use Rattle.list_read_back.proofs.Same.{list-same}
 use Rattle.list_read_back.proofs.Walks.{patternOf, kind-walk}
 

@@ -6,10 +6,10 @@ use lib.ListN.{length, length-map}
 use Rattle.tree.specs.Input.{Input, inputBytes}
 use Rattle.tree.specs.Places.{kindPlace}
 use Rattle.tree.specs.Kinds.{Kind, Blend, ColorMatrix, ComponentTransfer, Composite, ConvolveMatrix, DiffuseLighting, DisplacementMap, DropShadow, Flood, GaussianBlur, Image, Merge, Morphology, Offset, SpecularLighting, Tile, Turbulence, Primitive, inputsIn, inputsOf}
-use Rattle.tree.specs.List.{inputRun, inputsBytes, kindBytes, primitiveBytes, primitiveSize, pairs, records, listBytes}
+use Rattle.tree.specs.List.{inputRun, inputsBytes, kindBytes, primitiveBytes, primitiveSize, pairsBytes, recordsBytes, listBytes}
 use Rattle.list_read.specs.Layout.{layoutOf}
-use Rattle.list_read.specs.Records.{form1, writeInputs, writeKindInputs, writeRecord}
-use Rattle.list_read.specs.Lists.{writePairs, writeRecords, writeList}
+use Rattle.list_read.specs.Records.{form1}
+use Rattle.list_read.specs.Write.{writeInputs, writeKindInputs, writeRecord, writePairs, writeRecords, writeList}
 use Rattle.list_read_back.specs.Reading.{listRecordOf}
 
 -- a kind's inputs, as its layout has them
@@ -37,13 +37,13 @@ record-same : (p : Primitive) → writeRecord form1 (listRecordOf p) ≡ primiti
 unfolding writeRecord primitiveBytes kindBytes
 record-same p = rw (inputs-same (p .kind)) (simp append-assoc)
 
-records-same : (ps : List Primitive) → writeRecords form1 (map listRecordOf ps) ≡ records ps
-unfolding writeRecords records
+records-same : (ps : List Primitive) → writeRecords form1 (map listRecordOf ps) ≡ recordsBytes ps
+unfolding writeRecords recordsBytes
 records-same [] = refl
 records-same (p ∷ ps) = rw (record-same p, records-same ps)
 
-pairs-same : (at : ℕ) (ps : List Primitive) → writePairs form1 at (map listRecordOf ps) ≡ pairs at (map primitiveSize ps)
-unfolding writePairs pairs
+pairs-same : (at : ℕ) (ps : List Primitive) → writePairs form1 at (map listRecordOf ps) ≡ pairsBytes at (map primitiveSize ps)
+unfolding writePairs pairsBytes
 pairs-same at [] = refl
 pairs-same at (p ∷ ps) = rw (record-same p, pairs-same (at + length (primitiveBytes p)) ps) (simp append-assoc)
 

@@ -39,7 +39,7 @@ use Rattle.ranges.specs.Numbers.{kindNumbers}
 use Rattle.list_read.specs.Read.{got, readBelow, read32, readMany}
 use Rattle.list_read.specs.Layout.{byteBelow, anyBytes, f32s, vec, Field, item, layoutOf, walkItem, walkItems, walkField, walkFields, colorMatrixKind, transferFunction, compositeOperator, lightSource}
 use Rattle.list_read.proofs.Back.{read16-back}
-use Rattle.list_read_back.specs.Reading.{TransferWithin, ColorMatrixWithin, KindWithin}
+use Rattle.list_read_back.specs.Within.{TransferWithin, ColorMatrixWithin, KindWithin}
 
 -- what the four bytes of a number are read as
 abbrev pub pattern : ℕ → ℕ

@@ -14,8 +14,8 @@ use Rattle.list_read.specs.Records.{ListRecord}
 use Rattle.list_read.specs.Patterns.{walkKind, patternsIn}
 
 -- the number at a place
-abbrev pub at : List Float → ℕ → Float
-at ns k = getD ns k plusZero
+abbrev pub numberAt : List Float → ℕ → Float
+numberAt ns k = getD ns k plusZero
 
 -- "a spot light's exponent [is] positive": a distant light has two numbers and a point light three; a spot light has seven, the exponent last, and
 -- the cone's angle after them where it is given
@@ -33,7 +33,7 @@ kernelOk words ns =
     eqb (length ns) (getD words 2 0 * getD words 3 0 + 2)
     && ltb (getD words 0 0) (getD words 2 0)
     && ltb (getD words 1 0) (getD words 3 0)
-    && not (nearZero (at ns (getD words 2 0 * getD words 3 0)))
+    && not (nearZero (numberAt ns (getD words 2 0 * getD words 3 0)))
 
 -- by the kind's place, the numbers of its fields, and the first four words of them. "radius, deviation and a spot light's exponent are positive as
 -- above; specular lighting's exponent is 1 to 128; opacity 0 to 1"
@@ -41,11 +41,11 @@ unfoldable pub namedOk : ℕ → List Float → (words : List ℕ) → Bool
 namedOk kind ns words =
     cond (eqb kind 4) (kernelOk words ns)  -- ConvolveMatrix
     (cond (eqb kind 5) (lightOk (drop 2 ns))  -- DiffuseLighting: scale, constant, light
-    (cond (eqb kind 7) (positive (at ns 2) && positive (at ns 3) && opacityIn (at ns 4))  -- DropShadow: offsets, deviations, opacity
-    (cond (eqb kind 8) (opacityIn (at ns 0))  -- Flood: opacity
-    (cond (eqb kind 9) (positive (at ns 0) && positive (at ns 1))  -- GaussianBlur: deviations
-    (cond (eqb kind 12) (positive (at ns 0) && positive (at ns 1))  -- Morphology: radii
-    (cond (eqb kind 14) (exponentInRange (at ns 2) && lightOk (drop 3 ns))  -- SpecularLighting: scale, constant, exponent, light
+    (cond (eqb kind 7) (positive (numberAt ns 2) && positive (numberAt ns 3) && opacityIn (numberAt ns 4))  -- DropShadow: offsets, deviations, opacity
+    (cond (eqb kind 8) (opacityIn (numberAt ns 0))  -- Flood: opacity
+    (cond (eqb kind 9) (positive (numberAt ns 0) && positive (numberAt ns 1))  -- GaussianBlur: deviations
+    (cond (eqb kind 12) (positive (numberAt ns 0) && positive (numberAt ns 1))  -- Morphology: radii
+    (cond (eqb kind 14) (exponentInRange (numberAt ns 2) && lightOk (drop 3 ns))  -- SpecularLighting: scale, constant, exponent, light
     true))))))
 
 -- the f32 of the fields, as numbers

@@ -9,7 +9,7 @@ use lib.ListN.{length, getD, take, set, length-append, length-set}
 use lib.Seq.{take-suc, take-suc-set, take-take, getD-take, length-take-le}
 use Rattle.tree.specs.Input.{Name}
 use Rattle.tree.specs.Kinds.{Primitive, mapKind}
-use Rattle.tree.specs.List.{primitiveBytes, primitiveSize, records}
+use Rattle.tree.specs.List.{primitiveBytes, primitiveSize, recordsBytes}
 use Rattle.child.specs.Child as value
 use Rattle.child.specs.Means.{childIs}
 use Rattle.child.specs.declared.Child.{Child}
@@ -21,7 +21,8 @@ use Rattle.results.specs.declared.ResultName.{ResultName}
 use Rattle.results.specs.declared.FilterResults.{FilterResults}
 use Rattle.naming.proofs.Claim.{map-snoc}
 use Rattle.results.proofs.Tables.{named-first, named-at}
-use Rattle.list_primitives.specs.Primitives.{primitiveOf, primitivesFrom, primitives, ownsOf}
+use Rattle.list_primitives.specs.Primitives.{primitiveOf, primitivesFrom, primitives}
+use Rattle.list_primitives.specs.NamesOnly.{ownsOf}
 use Rattle.list_primitives.specs.Tables.{primitiveAt}
 use Rattle.list_records.specs.Tables.{childAt, childrenIs, recordAt, recordsUpTo, sizesUpTo, Measures}
 
@@ -53,10 +54,10 @@ unfolding primitivesFrom afterAll
 primitives-snoc st [] c = refl
 primitives-snoc st (d ∷ ds) c = ap (λ (l : List Primitive). primitiveOf st d ∷ l) (primitives-snoc (after st (d .own)) ds c)
 
-records-snoc : (ps : List Primitive) (p : Primitive) → records (ps ++ (p ∷ [])) ≡ records ps ++ primitiveBytes p
-unfolding records
+records-snoc : (ps : List Primitive) (p : Primitive) → recordsBytes (ps ++ (p ∷ [])) ≡ recordsBytes ps ++ primitiveBytes p
+unfolding recordsBytes
 records-snoc [] p = append-nil (primitiveBytes p)
-records-snoc (q ∷ qs) p = rw (records-snoc qs p) (sym (append-assoc (primitiveBytes q) (records qs) (primitiveBytes p)))
+records-snoc (q ∷ qs) p = rw (records-snoc qs p) (sym (append-assoc (primitiveBytes q) (recordsBytes qs) (primitiveBytes p)))
 
 module _ (frame : Frame) (s nodes names : List ℕ) where
   -- the bytes of the next record
@@ -113,14 +114,14 @@ module _ (frame : Frame) (s nodes names : List ℕ) where
         let known = named-first named j (omega arith) ∙ ap labels first in
         ap₂ (λ (l : Label) (ls : List Label). built-of c l ls) called known
 
-    pub records-are : (j : ℕ) → j ≤ n → recordsUpTo frame s nodes names j ≡ records (primitives (childrenIs frame s nodes j))
-    unfolding recordsUpTo records primitivesFrom
+    pub records-are : (j : ℕ) → j ≤ n → recordsUpTo frame s nodes names j ≡ recordsBytes (primitives (childrenIs frame s nodes j))
+    unfolding recordsUpTo recordsBytes primitivesFrom
     records-are zero h = refl
     records-are (suc j) h =
         let c = childAt frame s (getD nodes j 0) in
         ap₂ _++_ (records-are j (omega arith)) (ap primitiveBytes (record-is j (omega arith)))
         ∙ sym (records-snoc (primitives (childrenIs frame s nodes j)) (primitiveOf (resultsOf (ownsOf (childrenIs frame s nodes j))) c))
-        ∙ ap records (sym (primitives-snoc start (childrenIs frame s nodes j) c) ∙ ap primitives (sym (children-suc j (omega arith))))
+        ∙ ap recordsBytes (sym (primitives-snoc start (childrenIs frame s nodes j) c) ∙ ap primitives (sym (children-suc j (omega arith))))
 
     pub sizes-are : (j : ℕ) → j ≤ n → sizesUpTo frame s nodes names j ≡ map primitiveSize (primitives (childrenIs frame s nodes j))
     unfolding sizesUpTo primitivesFrom

@@ -5,7 +5,7 @@ ghost use lib.ListN.{length};
 ghost use Rattle.bits.specs.Patch.{Put};
 ghost use Rattle.svgtree.specs.Parse.{countOf};
 ghost use Rattle.child.specs.Means.{childIs, mergeEnd};
-ghost use Rattle.results.specs.Means.{Table};
+ghost use Rattle.results.specs.Means.{NameTable};
 ghost use Rattle.list_records.specs.Tables.{nobody, childAt, recordsUpTo, Below};
 use bits::MaybeText;
 use bits::wide16;
@@ -64,7 +64,7 @@ pub fn put_records(
     out: &mut [u8],
     at: usize,
 ) -> usize
-    requires { ⌜ Table (now s) (now names) records × (countOf (now s) ≤ 512) × Below (now nodes) (countOf (now s)) records ⌝ }
+    requires { ⌜ NameTable (now s) (now names) records × (countOf (now s) ≤ 512) × Below (now nodes) (countOf (now s)) records ⌝ }
     requires { ⌜ at + length (recordsUpTo frame (now s) (now nodes) (now names) records) ≤ length (now out) ⌝ }
     ensures { λ r. ⌜ Put (now (out .entry)) at (length (recordsUpTo frame (now (s .entry)) (now (nodes .entry)) (now (names .entry)) records)) (recordsUpTo frame (now (s .entry)) (now (nodes .entry)) (now (names .entry)) records) (now (out .exit)) r ⌝ }
 {

@@ -7,12 +7,12 @@ ghost use Rattle.bits.specs.Patch.{Put};
 ghost use Rattle.bits.specs.Texts.{textIs};
 ghost use Rattle.num.specs.Lists.{numbersIs};
 ghost use Rattle.tree.specs.Input.{textBytes};
-ghost use Rattle.tree.specs.Scalars.{boolByte, twosComplement, i32Bytes, colorBytes, rectBytes, optionBytes, optionSize, numbersBytes, numbersSize, runBytes};
+ghost use Rattle.tree.specs.Scalars.{boolByte, twosComplement, i32Bytes, colorBytes, rectBytes, optionBytes, numbersBytes, runBytes};
 ghost use Rattle.tree.specs.Places.{colorInterpolationPlace, blendModePlace, edgeModePlace, colorChannelPlace, morphologyOperatorPlace, turbulenceKindPlace};
 ghost use Rattle.tree.specs.Fields.{compositeOperatorBytes, tripleBytes, distantLightBytes, spotLightBytes, lightSourceBytes, colorMatrixKindBytes, transferFunctionBytes, componentTransferBytes, convolveMatrixDataBytes, convolveMatrixBytes, diffuseLightingBytes, displacementMapBytes, dropShadowBytes, floodBytes, gaussianBlurBytes, morphologyBytes, offsetBytes, specularLightingBytes, turbulenceBytes};
-ghost use Rattle.tree.specs.Sizes.{compositeOperatorSize, spotLightSize, lightSourceSize, colorMatrixKindSize, transferFunctionSize, componentTransferSize, convolveMatrixDataSize, convolveMatrixSize, diffuseLightingSize, specularLightingSize};
+ghost use Rattle.tree.specs.Sizes.{compositeOperatorSize, spotLightSize, lightSourceSize, colorMatrixKindSize, transferFunctionSize, componentTransferSize, convolveMatrixDataSize, convolveMatrixSize, diffuseLightingSize, specularLightingSize, optionSize, numbersSize, total};
 ghost use Rattle.tree.specs.Means.{colorMatrixKindIs, transferFunctionIs, componentTransferIs, convolveMatrixDataIs, convolveMatrixIs};
-ghost use Rattle.tree.specs.List.{pairs, total};
+ghost use Rattle.tree.specs.List.{pairsBytes};
 use bits::Text;
 use bits::copy;
 use bits::put_f32;
@@ -654,7 +654,7 @@ pub fn put_turbulence(v: Turbulence, out: &mut [u8], at: usize) -> usize
 // The list's pairs of offset and length, from a table of the records' sizes. The first record begins at `base`.
 pub fn put_pairs(sizes: &[u32; 512], count: u16, base: u32, out: &mut [u8], at: usize) -> usize
     requires { ⌜ (count ≤ 512) × (count ≤ length (now sizes)) × (at + 8 * count ≤ length (now out)) × (base + total (take count (now sizes)) < 2 ^ 32) ⌝ }
-    ensures { λ r. ⌜ Put (now (out .entry)) at (8 * count) (pairs base (take count (now (sizes .entry)))) (now (out .exit)) r ⌝ }
+    ensures { λ r. ⌜ Put (now (out .entry)) at (8 * count) (pairsBytes base (take count (now (sizes .entry)))) (now (out .exit)) r ⌝ }
 {
     let mut o = at;
     let mut j: u16 = 0;

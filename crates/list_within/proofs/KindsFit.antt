@@ -23,7 +23,7 @@ use Rattle.geom.specs.declared.Size.{Size}
 use Rattle.geom.specs.declared.MaybeRect.{MaybeRect}
 use Rattle.geom.specs.declared.MaybeRect.the-variants as rect
 use Rattle.svgtree.specs.Values.{Value, absent, textValue, numberValue, numbersValue, lengthValue, colorValue, triesValue, Node}
-use Rattle.svgtree.specs.Readers.{textIn, numbersIn, lookup, textOf, numberOf, numbersOf, triesOf}
+use Rattle.svgtree.specs.Readers.{textIn, numbersIn, valueUnder, textOf, numberOf, numbersOf, triesOf}
 use Rattle.field_tests.specs.Tests.{all}
 use Rattle.sheet_accepted.specs.Nodes.{AcceptedValue, AcceptedNode, EachAccepted}
 use Rattle.tree.specs.Kinds.{ColorMatrixKind, Matrix, Saturate, HueRotate, LuminanceToAlpha, Identity, Kind, ComponentTransfer, DropShadow, Flood, GaussianBlur, Merge, Offset, ConvolveMatrixData, ConvolveMatrixFields, inputsOf}
@@ -34,7 +34,7 @@ use Rattle.units.specs.declared.Units.{Units}
 use Rattle.units.specs.declared.Units.the-variants as units
 use Rattle.subregion.specs.Subregions.{scaleIn, scaleOf}
 use Rattle.fe.specs.Attributes.{numberOr}
-use Rattle.child.specs.Means.{inOf}
+use Rattle.child.specs.Child.{inOf}
 use Rattle.fe_color.specs.ColorMatrix.{colorMatrixKindOf}
 use Rattle.fe_color.specs.ComponentTransfer.{orEmpty, transferFunctionOf, functionsOf, lastOr, componentTransferOf}
 use Rattle.num.specs.Numbers.{Each}
@@ -65,7 +65,7 @@ use Rattle.fe.specs.declared.pair.MaybePair.{MaybePair}
 use Rattle.fe.specs.declared.pair.MaybePair.the-variants as maybe-pair
 use Rattle.fe_displacement_map.specs.declared.MaybeDisplacementMap.{MaybeDisplacementMap}
 use Rattle.fe_displacement_map.specs.declared.MaybeDisplacementMap.the-variants as displacement
-use Rattle.fe.specs.Pairs.{both, pairIn, signsClear, ifPositive}
+use Rattle.fe.specs.Pairs.{pairOf, pairIn, signsClear, ifPositive}
 use Rattle.fe_morphology.specs.Morphology.{onesForZeros, unitRadius, scaledRadius, radiusOf, morphologyWith, morphologyOperatorOf}
 use Rattle.fe_displacement_map.specs.DisplacementMap.{boxSum, displacementWith, displacementMapOf}
 use Rattle.fe_turbulence.specs.Turbulence.{frequencyOf, turbulenceWith}
@@ -73,12 +73,11 @@ use Rattle.fe.proofs.Keywords.{keyword-holds}
 use Rattle.fe.proofs.Numbers.{ValueHolds, NodeHolds, number-or}
 use Rattle.fe.proofs.Pairs.{PairHolds, pair-holds}
 use Rattle.fe_light.proofs.Numbers.{LightHolds, first-holds, light-holds}
-use Rattle.elements.specs.Elements.{Made, made, elements, kindOf, in2Of, convolveMade, diffuseMade, specularMade, morphologyMade, displacementMade, turbulenceMade}
+use Rattle.elements.specs.Elements.{ElementKind, made, elements, kindOf, in2Of, convolveMade, diffuseMade, specularMade, morphologyMade, displacementMade, turbulenceMade}
 use Rattle.ranges.specs.Numbers.{kindNumbers}
 use Rattle.ranges.proofs.Children.{MadeAll, AnyRefusal, All, by-tag}
 use Rattle.tree.specs.Input.{Name}
-use Rattle.list_read_back.specs.Claim.{Fits}
-use Rattle.list_read_back.specs.Reading.{KindWithin, TransferWithin, ColorMatrixWithin}
+use Rattle.list_read_back.specs.Within.{Fits, KindWithin, TransferWithin, ColorMatrixWithin}
 use Rattle.list_within.specs.Fitting.{NumbersFit, OptionFit, OptionsFit}
 
 -- ---- what is read of a node
@@ -98,7 +97,7 @@ value-fits (colorValue c) h = tt
 value-fits (triesValue t) h = tt
 
 node-fits : (n : Node) → AcceptedNode n → NodeHolds Fits n
-node-fits n h id = value-fits (lookup id (n .attributes)) (h .value id)
+node-fits n h id = value-fits (valueUnder id (n .attributes)) (h .value id)
 
 nodes-fit : (ns : List Node) → EachAccepted ns → Each (NodeHolds Fits) ns
 nodes-fit [] h = tt
@@ -129,10 +128,10 @@ text-in (colorValue c) h = tt
 text-in (triesValue t) h = tt
 
 pub text-of : (n : Node) → AcceptedNode n → (id : ℕ) → OptionFit (textOf n id)
-text-of n h id = text-in (lookup id (n .attributes)) (h .value id)
+text-of n h id = text-in (valueUnder id (n .attributes)) (h .value id)
 
 numbers-of : (n : Node) → AcceptedNode n → (id : ℕ) → ListFit (numbersOf n id)
-numbers-of n h id = numbers-in (lookup id (n .attributes)) (h .value id)
+numbers-of n h id = numbers-in (valueUnder id (n .attributes)) (h .value id)
 
 zero-fits : Fits plusZero
 zero-fits = ofBits-fits binary32 0
@@ -180,7 +179,7 @@ pub record KindFit (k : Kind (Option Name)) : Type 0 where
   pub counts : KindWithin k
   pub inputs : OptionsFit (inputsOf k)
 
-abbrev pub MadeFit : Made → Type 0
+abbrev pub MadeFit : ElementKind → Type 0
 MadeFit m = MadeAll KindFit AnyRefusal m
 
 flood-fit : MadeFit (made (Flood transparentBlack))
@@ -207,7 +206,7 @@ if-positive p h = choose PairFit (positive (p .x) && positive (p .y)) (maybe-pai
 
 frequency-fit : (o : Option (List Float)) → ListFit o → PairFit (frequencyOf o)
 frequency-fit none h = (zero-fits, zero-fits)
-frequency-fit (some xs) h = choose PairFit (signsClear (pairIn xs)) (ifPositive (pairIn xs)) (maybe-pair.Is (both plusZero plusZero)) (if-positive (pairIn xs) (pair-holds Fits zero-fits xs (h .0))) (zero-fits, zero-fits)
+frequency-fit (some xs) h = choose PairFit (signsClear (pairIn xs)) (ifPositive (pairIn xs)) (maybe-pair.Is (pairOf plusZero plusZero)) (if-positive (pairIn xs) (pair-holds Fits zero-fits xs (h .0))) (zero-fits, zero-fits)
 
 -- ---- the scale
 

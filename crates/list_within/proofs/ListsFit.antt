@@ -31,9 +31,9 @@ use Rattle.num.specs.Numbers.{Each}
 use Rattle.ranges.specs.Numbers.{rectNumbers, kindNumbers, primitiveNumbers, listNumbers}
 use Rattle.ranges.proofs.Children.{AnyRefusal, ChildrenAll, ChainAll, chain-all, ChainFew, chain-few}
 use Rattle.num.proofs.Each.{each-append}
-use Rattle.list_read.specs.Records.{form1, inputsFit}
-use Rattle.list_read_back.specs.Reading.{KindWithin, Within, AllWithin}
-use Rattle.list_read_back.specs.Claim.{Fits}
+use Rattle.list_read.specs.Records.{form1}
+use Rattle.list_read.specs.Write.{inputsFit}
+use Rattle.list_read_back.specs.Within.{KindWithin, Within, AllWithin, Fits}
 use Rattle.list_within.specs.Fitting.{OptionFit}
 use Rattle.list_within.specs.Lists.{ListWithin}
 use Rattle.list_within.proofs.KindsFit.{KindFit, MadeFit, kind-fit, text-of}

@@ -9,14 +9,15 @@ use lib.Dec.{leb, ltb}
 use lib.ListN.{length, length-append}
 use borrow.Author.Tests.{le-leb, lt-ltb, ltb-true, ltb-false}
 use Rattle.bits.specs.Bytes.{same}
-use Rattle.bits.specs.Utf8.{Range, table, starting, step, run, whole, utf8}
+use Rattle.bits.specs.Utf8.{ByteRange, utf8Table, utf8Starting, utf8Step, utf8Run, utf8Whole, utf8}
 use Rattle.bits.proofs.WellFormed.{row-hit}
 use Rattle.tree.specs.Input as tree
-use Rattle.naming.specs.Names.{member, digits, digitsUpTo, w-result, madeName, free, Label, Own, Made, nameOf, ownNames, Results, start, namesSoFar, nextFree, label, counted, after}
-use Rattle.naming.specs.Inputs.{w-SourceGraphic, w-SourceAlpha, unsupported, parseIn, lastOf, previous, settled, resolve}
+use Rattle.naming.specs.Names.{member, digits, digitsUpTo, w-result, madeName, firstFree, Label, Own, Made, nameOf, ownNames, Results, start, namesSoFar, nextFree, label, counterAfter, after}
+use Rattle.naming.specs.Inputs.{w-SourceGraphic, w-SourceAlpha, unsupportedInputs, parseIn, lastOf, previous, settled, resolve}
 use Rattle.naming.proofs.Naming.{free-at-most}
 use Rattle.tree.specs.Input.{Name}
-use Rattle.list_read.specs.Records.{form1, textFits, inputFits, inputsFit}
+use Rattle.list_read.specs.Records.{form1, textFits}
+use Rattle.list_read.specs.Write.{inputFits, inputsFit}
 use Rattle.list_within.specs.Fitting.{OptionFit, OptionsFit}
 
 -- ---- ASCII is UTF-8
@@ -25,16 +26,16 @@ abbrev Small : List ℕ → Type 0
 Small [] = Unit {0}
 Small (b ∷ t) = (b ≤ 127) × Small t
 
-run-small : (t : List ℕ) → Small t → run (some []) t ≡ some []
-unfolding run step
+run-small : (t : List ℕ) → Small t → utf8Run (some []) t ≡ some []
+unfolding utf8Run utf8Step
 run-small [] h = refl
 run-small (b ∷ t) h =
-    let e : starting b table ≡ some [] = row-hit b [] _ 0 127 (omega arith) (h .0) in
-    ap (λ (q : Option (List Range)). run q t) e ∙ run-small t (h .1)
+    let e : utf8Starting b utf8Table ≡ some [] = row-hit b [] _ 0 127 (omega arith) (h .0) in
+    ap (λ (q : Option (List ByteRange)). utf8Run q t) e ∙ run-small t (h .1)
 
 small-utf8 : (t : List ℕ) → Small t → utf8 t ≡ true
 unfolding utf8
-small-utf8 t h = ap whole (run-small t h)
+small-utf8 t h = ap utf8Whole (run-small t h)
 
 small-append : (xs ys : List ℕ) → Small xs → Small ys → Small (xs ++ ys)
 small-append [] ys h k = k
@@ -113,7 +114,7 @@ names-snoc (m ∷ ls) l h k = (h .0, names-snoc ls l (h .1) k)
 module _ (i : ℕ) (st : Results) (f : StateFit i st) (few : i < 512) where
   next-low : nextFree st ≤ 1 + 513 * i + i
   next-low =
-      let a : free (ownNames (st .labels)) (st .idx) ≤ st .idx + length (ownNames (st .labels)) = free-at-most (ownNames (st .labels)) (st .idx) in
+      let a : firstFree (ownNames (st .labels)) (st .idx) ≤ st .idx + length (ownNames (st .labels)) = free-at-most (ownNames (st .labels)) (st .idx) in
       let b : length (ownNames (st .labels)) ≤ length (st .labels) = own-few (st .labels) in
       omega (arith, a, b, f .low, f .count)
 
@@ -121,7 +122,7 @@ module _ (i : ℕ) (st : Results) (f : StateFit i st) (few : i < 512) where
   label-fit (some t) h = h
   label-fit none h = made-fits (nextFree st) (omega (arith, next-low, few))
 
-  counted-low : (o : Option Name) → counted st o ≤ 1 + 513 * suc i
+  counted-low : (o : Option Name) → counterAfter st o ≤ 1 + 513 * suc i
   counted-low (some t) = omega (arith, f .low)
   counted-low none = omega (arith, next-low, few)
 
@@ -160,7 +161,7 @@ unfolding parseIn
 parse-fit t h =
     choose (same t w-SourceGraphic) tree.SourceGraphic _ refl
     (choose (same t w-SourceAlpha) tree.SourceAlpha _ refl
-    (choose (member t unsupported) tree.SourceGraphic (tree.Reference t) refl h))
+    (choose (member t unsupportedInputs) tree.SourceGraphic (tree.Reference t) refl h))
 
 resolve-fit : (ns : List Name) → NamesFit ns → (o : Option Name) → OptionFit o → InputFit (resolve ns o)
 unfolding resolve

@@ -12,11 +12,12 @@ use Rattle.tree.specs.Input.{Input}
 use Rattle.tree.proofs.Inputs.{inputs-map}
 use Rattle.naming.specs.Names.{Results, start, namesSoFar, nameOf, label, after}
 use Rattle.naming.specs.Inputs.{resolve}
-use Rattle.naming.specs.Agreement as names
-use Rattle.naming.specs.Agreement.{Agrees}
+use Rattle.naming.specs.Written.{recordNamesFrom}
+use Rattle.naming.specs.Agreement.{Agrees, RecordNames}
 use Rattle.naming.proofs.Claim.{claim}
 use Rattle.child.specs.Child.{Child}
-use Rattle.list_primitives.specs.Primitives.{primitivesFrom, primitives, childNames, recordNames}
+use Rattle.list_primitives.specs.Primitives.{primitivesFrom, primitives, childNames}
+use Rattle.list_primitives.specs.NamesOnly.{recordNames}
 use Rattle.ranges.specs.Numbers as ranges
 use Rattle.list_read.specs.Read.{got}
 use Rattle.tree.specs.Input.{Name}
@@ -24,7 +25,7 @@ use Rattle.list_read.specs.Records.{ListRecord, form1}
 use Rattle.list_read.specs.Lists.{readList}
 use Rattle.list_read.specs.Patterns.{listPatterns}
 use Rattle.list_read_back.specs.Reading.{listRecordOf}
-use Rattle.list_read_back.specs.Claim.{Reads}
+use Rattle.list_read_back.specs.Within.{Reads}
 use Rattle.list_read_back.specs.Ranges.{RecordRanges}
 use Rattle.list_read_back.proofs.ReadBack.{read-back, list-numbers}
 use Rattle.list_read_back.proofs.Claims.{patterns-back, reads}
@@ -37,11 +38,11 @@ got-same x y r e = cc
 
 -- the list's records are those that the naming theorem speaks of
 
-same-names : (st : Results) (cs : List Child) → map recordNames (primitivesFrom st cs) ≡ names.listFrom st (map childNames cs)
-unfolding primitivesFrom names.listFrom
+same-names : (st : Results) (cs : List Child) → map recordNames (primitivesFrom st cs) ≡ recordNamesFrom st (map childNames cs)
+unfolding primitivesFrom recordNamesFrom
 same-names st [] = refl
 same-names st (c ∷ cs) =
-    ap₂ {C = List names.Record} (λ (i : List Input) (l : List names.Record). record { result = nameOf (label st (c .own)); inputs = i } ∷ l)
+    ap₂ {C = List RecordNames} (λ (i : List Input) (l : List RecordNames). record { result = nameOf (label st (c .own)); inputs = i } ∷ l)
     (inputs-map (resolve (namesSoFar st)) (c .kind))
     (same-names (after st (c .own)) cs)
 

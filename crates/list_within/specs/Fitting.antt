@@ -9,7 +9,7 @@ use lib.ListN.{length}
 use lib.Ieee.{Float}
 use Rattle.tree.specs.Input.{Name}
 use Rattle.list_read.specs.Records.{textFits}
-use Rattle.list_read_back.specs.Claim.{Fits}
+use Rattle.list_read_back.specs.Within.{Fits}
 use Rattle.num.specs.Numbers.{Each}
 
 abbrev pub NumbersFit : List Float → Type 0

@@ -5,8 +5,7 @@ use lib.ListN.{length}
 use Rattle.tree.specs.Kinds.{Primitive}
 use Rattle.num.specs.Numbers.{Each}
 use Rattle.ranges.specs.Numbers.{listNumbers}
-use Rattle.list_read_back.specs.Reading.{AllWithin}
-use Rattle.list_read_back.specs.Claim.{Fits}
+use Rattle.list_read_back.specs.Within.{AllWithin, Fits}
 
 -- at most 512 records, each within the layout, and every number is what an f32 can be
 pub record ListWithin (ps : List Primitive) : Type 0 where

@@ -2,7 +2,6 @@
 -- `EId·FeBlend` is the tag byte of the source's `EId::FeBlend`, 1 + its place in the declaration, counted from 0, since tag 0 is a node without
 -- a name. `AId·In` is the id of the source's `AId::In`, its place counted from 0. Assumes nothing.
 use Prim.Native.Nat.{ℕ}
-use mathlib.Core.List.{List, [], _∷_}
 
 abbrev pub EId·FeBlend : ℕ
 EId·FeBlend = 6
@@ -247,26 +246,3 @@ AId·YChannelSelector = 209
 
 abbrev pub AId·Z : ℕ
 AId·Z = 210
-
--- how many names `AId` declares: no id is as large
-abbrev pub AId·COUNT : ℕ
-AId·COUNT = 211
-
--- the elements' numbers, in their order: the constants of the code are these, one by one (`eid::in_use`)
-unfoldable pub elementsInUse : List ℕ
-elementsInUse =
-    EId·FeBlend ∷ EId·FeColorMatrix ∷ EId·FeComponentTransfer ∷ EId·FeComposite ∷ EId·FeConvolveMatrix ∷ EId·FeDiffuseLighting ∷
-    EId·FeDisplacementMap ∷ EId·FeDistantLight ∷ EId·FeDropShadow ∷ EId·FeFlood ∷ EId·FeFuncA ∷ EId·FeFuncB ∷ EId·FeFuncG ∷ EId·FeFuncR ∷
-    EId·FeGaussianBlur ∷ EId·FeImage ∷ EId·FeMerge ∷ EId·FeMorphology ∷ EId·FeOffset ∷ EId·FePointLight ∷ EId·FeSpecularLighting ∷
-    EId·FeSpotLight ∷ EId·FeTile ∷ EId·FeTurbulence ∷ EId·COUNT ∷ []
-
--- the attributes' numbers, likewise (`aid::in_use`)
-unfoldable pub attributesInUse : List ℕ
-attributesInUse =
-    AId·Amplitude ∷ AId·Azimuth ∷ AId·BaseFrequency ∷ AId·Bias ∷ AId·Color ∷ AId·ColorInterpolationFilters ∷ AId·DiffuseConstant ∷
-    AId·Divisor ∷ AId·Dx ∷ AId·Dy ∷ AId·EdgeMode ∷ AId·Elevation ∷ AId·Exponent ∷ AId·FloodColor ∷ AId·FloodOpacity ∷ AId·Height ∷ AId·In ∷
-    AId·In2 ∷ AId·Intercept ∷ AId·K1 ∷ AId·K2 ∷ AId·K3 ∷ AId·K4 ∷ AId·KernelMatrix ∷ AId·LightingColor ∷ AId·LimitingConeAngle ∷ AId·Mode ∷
-    AId·NumOctaves ∷ AId·Offset ∷ AId·Operator ∷ AId·Order ∷ AId·PointsAtX ∷ AId·PointsAtY ∷ AId·PointsAtZ ∷ AId·PreserveAlpha ∷
-    AId·Radius ∷ AId·Result ∷ AId·Scale ∷ AId·Seed ∷ AId·Slope ∷ AId·SpecularConstant ∷ AId·SpecularExponent ∷ AId·StdDeviation ∷
-    AId·StitchTiles ∷ AId·SurfaceScale ∷ AId·TableValues ∷ AId·TargetX ∷ AId·TargetY ∷ AId·Type ∷ AId·Values ∷ AId·Width ∷ AId·X ∷
-    AId·XChannelSelector ∷ AId·Y ∷ AId·YChannelSelector ∷ AId·Z ∷ AId·COUNT ∷ []

@@ -1,2 +1,3 @@
 pub mod Ids
+pub mod InUse
 pub mod Kinds

@@ -1,7 +1,7 @@
 // Attribute names in use, as the id of an attribute: the place in the source's `AId`, counted from 0.
 ghost use mathlib.Core.Path.{_≡_};
 ghost use lib.ListN.{getD};
-ghost use Rattle.names.specs.Ids.{attributesInUse};
+ghost use Rattle.names.specs.InUse.{attributesInUse};
 
 pub const AMPLITUDE: u16 = 1;
 

@@ -1,7 +1,7 @@
 // Element names in use, as the tag byte of a node: 1 + the place in the source's `EId`, counted from 0. Tag 0 is a node without a name.
 ghost use mathlib.Core.Path.{_≡_};
 ghost use lib.ListN.{getD};
-ghost use Rattle.names.specs.Ids.{elementsInUse};
+ghost use Rattle.names.specs.InUse.{elementsInUse};
 
 pub const FE_BLEND: u8 = 6;
 

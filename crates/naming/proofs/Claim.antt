@@ -12,8 +12,9 @@ use Rattle.bits.specs.Bytes.{same}
 use Rattle.bits.proofs.Sameness.{same-refl, same-eq}
 use Rattle.tree.specs.Input.{Name, SourceGraphic, SourceAlpha, Reference}
 use Rattle.naming.specs.Names.{member, madeName, Label, Own, Made, nameOf, ownNames, Results, start, namesSoFar, nextFree, label, after, afterAll}
-use Rattle.naming.specs.Inputs.{w-SourceGraphic, w-SourceAlpha, unsupported, parseIn, lastOf, previous, settled, resolve}
-use Rattle.naming.specs.Agreement.{Child, listFrom, list, Image, graphic, alpha, nth, later, lastWith, lookup, reserved, isOwn, isMade, directly, rule, owns, results, inputsAt, writtenAt, Agrees, orElse, called}
+use Rattle.naming.specs.Inputs.{w-SourceGraphic, w-SourceAlpha, unsupportedInputs, parseIn, lastOf, previous, settled, resolve}
+use Rattle.naming.specs.Agreement.{ChildNames, InputImage, graphic, alpha, nth, later, lastWith, lookup, reserved, isOwn, isMade, directly, rule, owns, resultNames, inputsAt, writtenAt, Agrees, orElse, called}
+use Rattle.naming.specs.Written.{recordNamesFrom, allRecordNames}
 use Rattle.naming.proofs.Words.{both-ways, or-left, or-right}
 use Rattle.naming.proofs.Naming.{free-is-free}
 
@@ -66,9 +67,9 @@ data Read (t : Name) : Type 0 where
 
 read : (t : Name) → Read t
 unfolding parseIn member
-read t = go (same t w-SourceGraphic) refl (same t w-SourceAlpha) refl (member t unsupported) refl
+read t = go (same t w-SourceGraphic) refl (same t w-SourceAlpha) refl (member t unsupportedInputs) refl
   where
-    go : (a : Bool) → same t w-SourceGraphic ≡ a → (b : Bool) → same t w-SourceAlpha ≡ b → (c : Bool) → member t unsupported ≡ c → Read t
+    go : (a : Bool) → same t w-SourceGraphic ≡ a → (b : Bool) → same t w-SourceAlpha ≡ b → (c : Bool) → member t unsupportedInputs ≡ c → Read t
     go true p true q c r = let z : _≡_ {A = ℕ} 71 65 = cc (same-eq t w-SourceGraphic p, same-eq t w-SourceAlpha q) in absurd (omega arith)
     go true p false q c r = r-graphic (rw p) (rw (q, p))
     go false p true q c r = r-alpha (rw (p, q)) (rw q)
@@ -141,7 +142,7 @@ one-input ls g (some t) = go (read t)
     ns : List Name
     ns = map nameOf ls
 
-    byName : Image
+    byName : InputImage
     byName = Option·getD (Option·map nth (called t ls)) (directly ls)
 
     named : (b : Bool) → member t ns ≡ b → lookup ns (cond b (Reference t) (previous ns)) ≡ some byName
@@ -165,30 +166,30 @@ getD-map f [] j a b h = absurd (omega arith)
 getD-map f (x ∷ xs) zero a b h = refl
 getD-map f (x ∷ xs) (suc j) a b h = getD-map f xs j a b (omega arith)
 
-agree-from : (cs : List Child) (st : Results) → Newest (st .labels) → (i : ℕ) → i < length cs → (j : ℕ) → j < length (inputsAt cs i)
-    → lookup (namesSoFar st ++ results (take i (listFrom st cs))) (getD (writtenAt (listFrom st cs) i) j SourceGraphic)
+agree-from : (cs : List ChildNames) (st : Results) → Newest (st .labels) → (i : ℕ) → i < length cs → (j : ℕ) → j < length (inputsAt cs i)
+    → lookup (namesSoFar st ++ resultNames (take i (recordNamesFrom st cs))) (getD (writtenAt (recordNamesFrom st cs) i) j SourceGraphic)
     ≡ some (rule (afterAll st (owns (take i cs)) .labels) (getD (inputsAt cs i) j none))
-unfolding listFrom afterAll
+unfolding recordNamesFrom afterAll
 agree-from [] st g i h j k = absurd (omega arith)
 agree-from (c ∷ cs) st g zero h j k = rw (append-nil (namesSoFar st), getD-map (resolve (namesSoFar st)) (c .inputs) j none SourceGraphic k) (one-input (st .labels) g (getD (c .inputs) j none))
 agree-from (c ∷ cs) st g (suc i) h j k =
     rw (
-      ← append-snoc (namesSoFar st) (nameOf (label st (c .own))) (results (take i (listFrom (after st (c .own)) cs))),
+      ← append-snoc (namesSoFar st) (nameOf (label st (c .own))) (resultNames (take i (recordNamesFrom (after st (c .own)) cs))),
       ← map-snoc nameOf (st .labels) (label st (c .own)),
     )
     (agree-from cs (after st (c .own)) (newest-after st (c .own) g) i (omega arith) j k)
 
-length-list : (cs : List Child) (st : Results) → length (listFrom st cs) ≡ length cs
-unfolding listFrom
+length-list : (cs : List ChildNames) (st : Results) → length (recordNamesFrom st cs) ≡ length cs
+unfolding recordNamesFrom
 length-list [] st = refl
 length-list (c ∷ cs) st = ap suc (length-list cs (after st (c .own)))
 
-length-inputs : (cs : List Child) (st : Results) (i : ℕ) → i < length cs → length (writtenAt (listFrom st cs) i) ≡ length (inputsAt cs i)
-unfolding listFrom
+length-inputs : (cs : List ChildNames) (st : Results) (i : ℕ) → i < length cs → length (writtenAt (recordNamesFrom st cs) i) ≡ length (inputsAt cs i)
+unfolding recordNamesFrom
 length-inputs [] st i h = absurd (omega arith)
 length-inputs (c ∷ cs) st zero h = length-map (c .inputs) (resolve (namesSoFar st))
 length-inputs (c ∷ cs) st (suc i) h = length-inputs cs (after st (c .own)) i (omega arith)
 
 -- for every list of children, every child and every input
-pub claim : (cs : List Child) → Agrees cs (list cs)
+pub claim : (cs : List ChildNames) → Agrees cs (allRecordNames cs)
 claim cs = record { one-each = length-list cs start; inputs-each = length-inputs cs start; agree = agree-from cs start newest-start }

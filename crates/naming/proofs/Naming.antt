@@ -10,7 +10,7 @@ use lib.Dec.{eqb, ltb}
 use lib.ListN.{length}
 use Rattle.bits.specs.Bytes.{same}
 use Rattle.tree.specs.Input.{Name}
-use Rattle.naming.specs.Names.{member, digits, digitsUpTo, madeName, free, freeUpTo}
+use Rattle.naming.specs.Names.{member, digits, digitsUpTo, madeName, firstFree, firstFreeUpTo}
 use Rattle.bits.proofs.Sameness.{same-eq}
 use Rattle.naming.proofs.Words.{both-ways, same-ne}
 
@@ -86,28 +86,28 @@ without-less x (y ∷ ys) h = go (same x y) h (without-less x ys)
     go true e ih = omega (arith, without-shorter x ys)
     go false e ih = omega (arith, ih e)
 
-free-from : (f : ℕ) (ns : List Name) (k : ℕ) → k ≤ freeUpTo f ns k
-unfolding freeUpTo
+free-from : (f : ℕ) (ns : List Name) (k : ℕ) → k ≤ firstFreeUpTo f ns k
+unfolding firstFreeUpTo
 free-from zero ns k = omega arith
 free-from (suc f) ns k = go (member (madeName k) ns) (free-from f ns (k + 1))
   where
-    go : (b : Bool) → k + 1 ≤ freeUpTo f ns (k + 1) → k ≤ cond b (freeUpTo f ns (k + 1)) k
+    go : (b : Bool) → k + 1 ≤ firstFreeUpTo f ns (k + 1) → k ≤ cond b (firstFreeUpTo f ns (k + 1)) k
     go true h = omega arith
     go false h = omega arith
 
 -- what lies behind the search does not bear on it
-free-without : (f : ℕ) (ns : List Name) (k j : ℕ) → j < k → freeUpTo f ns k ≡ freeUpTo f (without (madeName j) ns) k
-unfolding freeUpTo
+free-without : (f : ℕ) (ns : List Name) (k j : ℕ) → j < k → firstFreeUpTo f ns k ≡ firstFreeUpTo f (without (madeName j) ns) k
+unfolding firstFreeUpTo
 free-without zero ns k j h = refl
 free-without (suc f) ns k j h =
     let m : member (madeName k) (without (madeName j) ns) ≡ member (madeName k) ns
     = without-other (madeName j) (madeName k) ns (same-ne (madeName k) (madeName j) (λ e. let q : k ≡ j = made-injective k j e in omega arith)) in
-    let ih : freeUpTo f ns (k + 1) ≡ freeUpTo f (without (madeName j) ns) (k + 1) = free-without f ns (k + 1) j (omega arith) in
+    let ih : firstFreeUpTo f ns (k + 1) ≡ firstFreeUpTo f (without (madeName j) ns) (k + 1) = free-without f ns (k + 1) j (omega arith) in
     rw (m, ih)
 
 -- with a fuel of the list's length the search ends at a free number
-free-enough : (f : ℕ) (ns : List Name) (k : ℕ) → length ns ≤ f → member (madeName (freeUpTo f ns k)) ns ≡ false
-unfolding freeUpTo member
+free-enough : (f : ℕ) (ns : List Name) (k : ℕ) → length ns ≤ f → member (madeName (firstFreeUpTo f ns k)) ns ≡ false
+unfolding firstFreeUpTo member
 free-enough zero [] k h = refl
 free-enough zero (x ∷ xs) k h = absurd (omega arith)
 free-enough (suc f) ns k h = go (member (madeName k) ns) refl (free-enough f (without (madeName k) ns) (k + 1))
@@ -115,68 +115,68 @@ free-enough (suc f) ns k h = go (member (madeName k) ns) refl (free-enough f (wi
     W : List Name
     W = without (madeName k) ns
 
-    go : (b : Bool) → member (madeName k) ns ≡ b → (length W ≤ f → member (madeName (freeUpTo f W (k + 1))) W ≡ false)
-        → member (madeName (cond b (freeUpTo f ns (k + 1)) k)) ns ≡ false
+    go : (b : Bool) → member (madeName k) ns ≡ b → (length W ≤ f → member (madeName (firstFreeUpTo f W (k + 1))) W ≡ false)
+        → member (madeName (cond b (firstFreeUpTo f ns (k + 1)) k)) ns ≡ false
     go false e ih = e
     go true e ih =
         let l : length W < length ns = without-less (madeName k) ns e in
-        let q : freeUpTo f ns (k + 1) ≡ freeUpTo f W (k + 1) = free-without f ns (k + 1) k (omega arith) in
-        let far : k + 1 ≤ freeUpTo f W (k + 1) = free-from f W (k + 1) in
-        let other : same (madeName (freeUpTo f W (k + 1))) (madeName k) ≡ false
-        = same-ne _ _ (λ e′. let i : freeUpTo f W (k + 1) ≡ k = made-injective _ _ e′ in omega arith) in
-        rw q (sym (without-other (madeName k) (madeName (freeUpTo f W (k + 1))) ns other) ∙ ih (omega arith))
+        let q : firstFreeUpTo f ns (k + 1) ≡ firstFreeUpTo f W (k + 1) = free-without f ns (k + 1) k (omega arith) in
+        let far : k + 1 ≤ firstFreeUpTo f W (k + 1) = free-from f W (k + 1) in
+        let other : same (madeName (firstFreeUpTo f W (k + 1))) (madeName k) ≡ false
+        = same-ne _ _ (λ e′. let i : firstFreeUpTo f W (k + 1) ≡ k = made-injective _ _ e′ in omega arith) in
+        rw q (sym (without-other (madeName k) (madeName (firstFreeUpTo f W (k + 1))) ns other) ∙ ih (omega arith))
 
-pub free-is-free : (ns : List Name) (k : ℕ) → member (madeName (free ns k)) ns ≡ false
-unfolding free
+pub free-is-free : (ns : List Name) (k : ℕ) → member (madeName (firstFree ns k)) ns ≡ false
+unfolding firstFree
 free-is-free ns k = free-enough (length ns) ns k (omega arith)
 
-pub free-at-least : (ns : List Name) (k : ℕ) → k ≤ free ns k
-unfolding free
+pub free-at-least : (ns : List Name) (k : ℕ) → k ≤ firstFree ns k
+unfolding firstFree
 free-at-least ns k = free-from (length ns) ns k
 
 -- each number passed on the way is taken
-free-passed : (f : ℕ) (ns : List Name) (k j : ℕ) → k ≤ j → j < freeUpTo f ns k → member (madeName j) ns ≡ true
-unfolding freeUpTo
+free-passed : (f : ℕ) (ns : List Name) (k j : ℕ) → k ≤ j → j < firstFreeUpTo f ns k → member (madeName j) ns ≡ true
+unfolding firstFreeUpTo
 free-passed zero ns k j lo hi = absurd (omega arith)
 free-passed (suc f) ns k j lo hi = go (member (madeName k) ns) refl (eqb k j) refl (free-passed f ns (k + 1) j) hi
   where
     go : (b : Bool) → member (madeName k) ns ≡ b → (d : Bool) → eqb k j ≡ d
-        → (k + 1 ≤ j → j < freeUpTo f ns (k + 1) → member (madeName j) ns ≡ true)
-        → j < cond b (freeUpTo f ns (k + 1)) k → member (madeName j) ns ≡ true
+        → (k + 1 ≤ j → j < firstFreeUpTo f ns (k + 1) → member (madeName j) ns ≡ true)
+        → j < cond b (firstFreeUpTo f ns (k + 1)) k → member (madeName j) ns ≡ true
     go false e d q ih h = absurd (omega arith)
     go true e true q ih h = let p : k ≡ j = eqb-true k j q in rw (← p) e
     go true e false q ih h = ih (omega (arith, eqb-false k j q)) h
 
-free-near : (f : ℕ) (ns : List Name) (k : ℕ) → freeUpTo f ns k ≤ k + f
-unfolding freeUpTo
+free-near : (f : ℕ) (ns : List Name) (k : ℕ) → firstFreeUpTo f ns k ≤ k + f
+unfolding firstFreeUpTo
 free-near zero ns k = omega arith
 free-near (suc f) ns k = go (member (madeName k) ns) (free-near f ns (k + 1))
   where
-    go : (b : Bool) → freeUpTo f ns (k + 1) ≤ k + 1 + f → cond b (freeUpTo f ns (k + 1)) k ≤ k + suc f
+    go : (b : Bool) → firstFreeUpTo f ns (k + 1) ≤ k + 1 + f → cond b (firstFreeUpTo f ns (k + 1)) k ≤ k + suc f
     go true h = omega arith
     go false h = omega arith
 
-pub free-at-most : (ns : List Name) (k : ℕ) → free ns k ≤ k + length ns
-unfolding free
+pub free-at-most : (ns : List Name) (k : ℕ) → firstFree ns k ≤ k + length ns
+unfolding firstFree
 free-at-most ns k = free-near (length ns) ns k
 
 -- each number that is skipped is one of an explicit name
-pub free-skips : (ns : List Name) (k j : ℕ) → k ≤ j → j < free ns k → member (madeName j) ns ≡ true
-unfolding free
+pub free-skips : (ns : List Name) (k j : ℕ) → k ≤ j → j < firstFree ns k → member (madeName j) ns ≡ true
+unfolding firstFree
 free-skips ns k j lo hi = free-passed (length ns) ns k j lo hi
 
 -- The loop that counts k up from `from` while k is taken: k stays at most the free number, goes on while it is less, and stops at it
 
-pub free-go : (ns : List Name) (from k : ℕ) → k ≤ free ns from → member (madeName k) ns ≡ true → k < free ns from
-free-go ns from k h m = go (eqb k (free ns from)) refl
+pub free-go : (ns : List Name) (from k : ℕ) → k ≤ firstFree ns from → member (madeName k) ns ≡ true → k < firstFree ns from
+free-go ns from k h m = go (eqb k (firstFree ns from)) refl
   where
-    go : (b : Bool) → eqb k (free ns from) ≡ b → k < free ns from
-    go true e = let q : k ≡ free ns from = eqb-true k (free ns from) e in both-ways _ (rw q at m) (free-is-free ns from)
-    go false e = omega (arith, eqb-false k (free ns from) e)
+    go : (b : Bool) → eqb k (firstFree ns from) ≡ b → k < firstFree ns from
+    go true e = let q : k ≡ firstFree ns from = eqb-true k (firstFree ns from) e in both-ways _ (rw q at m) (free-is-free ns from)
+    go false e = omega (arith, eqb-false k (firstFree ns from) e)
 
-pub free-stop : (ns : List Name) (from k : ℕ) → from ≤ k → k ≤ free ns from → member (madeName k) ns ≡ false → free ns from ≡ k
-free-stop ns from k lo hi m = go (ltb k (free ns from)) refl
+pub free-stop : (ns : List Name) (from k : ℕ) → from ≤ k → k ≤ firstFree ns from → member (madeName k) ns ≡ false → firstFree ns from ≡ k
+free-stop ns from k lo hi m = go (ltb k (firstFree ns from)) refl
   where
-    go : (b : Bool) → ltb k (free ns from) ≡ b → free ns from ≡ k
-    go true e = both-ways _ (free-skips ns from k lo (ltb-true k (free ns from) e)) m
-    go false e = omega (arith, ltb-false k (free ns from) e)
+    go : (b : Bool) → ltb k (firstFree ns from) ≡ b → firstFree ns from ≡ k
+    go true e = both-ways _ (free-skips ns from k lo (ltb-true k (firstFree ns from) e)) m
+    go false e = omega (arith, ltb-false k (firstFree ns from) e)

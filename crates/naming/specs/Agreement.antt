@@ -8,35 +8,23 @@ use Prim.Native.Nat.{ℕ, suc, _<_}
 use lib.ListN.{length, getD, take}
 use Rattle.bits.specs.Bytes.{same}
 use Rattle.tree.specs.Input.{Name, Input, SourceGraphic, SourceAlpha, Reference}
-use Rattle.naming.specs.Names.{member, madeName, Label, Own, Made, nameOf, Results, start, namesSoFar, label, after, labels}
-use Rattle.naming.specs.Inputs.{w-SourceGraphic, w-SourceAlpha, unsupported, resolve}
+use Rattle.naming.specs.Names.{member, madeName, Label, Own, Made, labels}
+use Rattle.naming.specs.Inputs.{w-SourceGraphic, w-SourceAlpha, unsupportedInputs}
 
 -- a child that counts, as far as names go: its own `result`, and its inputs in order, each a text or absent
-pub record Child : Type 0 where
+pub record ChildNames : Type 0 where
   pub own : Option Name
   pub inputs : List (Option Name)
 
 -- a record of the list, as far as names go
-pub record Record : Type 0 where
+pub record RecordNames : Type 0 where
   pub result : Name
   pub inputs : List Input
 
--- The list: one record for each child, made with what the children before it are called
-
-abbrev pub recordOf : Results → Child → Record
-recordOf st c = record { result = nameOf (label st (c .own)); inputs = map (resolve (namesSoFar st)) (c .inputs) }
-
-unfoldable pub listFrom : Results → List Child → List Record
-listFrom st [] = []
-listFrom st (c ∷ cs) = recordOf st c ∷ listFrom (after st (c .own)) cs
-
-abbrev pub list : List Child → List Record
-list cs = listFrom start cs
-
 -- an image that an input can stand for: a source, or the result of one child, and so of one record, by its number, counted from 0
-pub data Image : Type 0 where
-  graphic alpha : Image
-  nth : ℕ → Image
+pub data InputImage : Type 0 where
+  graphic alpha : InputImage
+  nth : ℕ → InputImage
 
 -- the number of the last element that passes a test
 
@@ -51,7 +39,7 @@ lastWith p (x ∷ xs) = later (lastWith p xs) (p x)
 -- The reader's lookup, with the results of the records before the input's own: a source stands for itself, and a reference for the newest of those
 -- records whose result it names; none where no record has it
 
-unfoldable pub lookup : List Name → Input → Option Image
+unfoldable pub lookup : List Name → Input → Option InputImage
 lookup ns SourceGraphic = some graphic
 lookup ns SourceAlpha = some alpha
 lookup ns (Reference t) = Option·map nth (lastWith (same t) ns)
@@ -59,8 +47,8 @@ lookup ns (Reference t) = Option·map nth (lastWith (same t) ns)
 -- The document's rule, with the labels of the children before the input's own
 
 -- what a reserved word stands for: each source for itself, and the four inputs that are not supported for SourceGraphic
-abbrev pub reserved : Name → Option Image
-reserved t = cond (same t w-SourceAlpha) (some alpha) (cond (member t (w-SourceGraphic ∷ unsupported)) (some graphic) none)
+abbrev pub reserved : Name → Option InputImage
+reserved t = cond (same t w-SourceAlpha) (some alpha) (cond (member t (w-SourceGraphic ∷ unsupportedInputs)) (some graphic) none)
 
 abbrev pub isOwn : Name → Label → Bool
 isOwn t (Own u) = same t u
@@ -71,7 +59,7 @@ isMade t (Own u) = false
 isMade t (Made k) = same t (madeName k)
 
 -- the child directly before, or SourceGraphic for the first
-abbrev pub directly : List Label → Image
+abbrev pub directly : List Label → InputImage
 directly [] = graphic
 directly (l ∷ ls) = nth (length ls)
 
@@ -86,30 +74,30 @@ called t before = orElse (lastWith (isOwn t) before) (lastWith (isMade t) before
 
 -- a reserved word is its source, and any other text the child that it names; where it names none, and where the input is absent, it is the child
 -- directly before
-unfoldable pub rule : List Label → Option Name → Image
+unfoldable pub rule : List Label → Option Name → InputImage
 rule before none = directly before
 rule before (some t) = Option·getD (reserved t) (Option·getD (Option·map nth (called t before)) (directly before))
 
 -- The claim
 
-abbrev pub owns : List Child → List (Option Name)
-owns cs = map (λ (c : Child). c .own) cs
+abbrev pub owns : List ChildNames → List (Option Name)
+owns cs = map (λ (c : ChildNames). c .own) cs
 
-abbrev pub results : List Record → List Name
-results rs = map (λ (r : Record). r .result) rs
+abbrev pub resultNames : List RecordNames → List Name
+resultNames rs = map (λ (r : RecordNames). r .result) rs
 
 -- the inputs of child i, and of record i
 
-abbrev pub inputsAt : List Child → ℕ → List (Option Name)
+abbrev pub inputsAt : List ChildNames → ℕ → List (Option Name)
 inputsAt cs i = getD cs i (record { own = none; inputs = [] }) .inputs
 
-abbrev pub writtenAt : List Record → ℕ → List Input
+abbrev pub writtenAt : List RecordNames → ℕ → List Input
 writtenAt rs i = getD rs i (record { result = []; inputs = [] }) .inputs
 
 -- there is one record for each child, with as many inputs as the child has; and at every input, lookup among the records before gives what the rule
 -- gives among the children before: the same source, or record n and child n. A reference that is found nowhere would be `none`
-pub record Agrees (cs : List Child) (rs : List Record) : Type 0 where
+pub record Agrees (cs : List ChildNames) (rs : List RecordNames) : Type 0 where
   pub one-each : length rs ≡ length cs
   pub inputs-each : (i : ℕ) → i < length cs → length (writtenAt rs i) ≡ length (inputsAt cs i)
   pub agree : (i : ℕ) → i < length cs → (j : ℕ) → j < length (inputsAt cs i)
-      → lookup (results (take i rs)) (getD (writtenAt rs i) j SourceGraphic) ≡ some (rule (labels (owns (take i cs))) (getD (inputsAt cs i) j none))
+      → lookup (resultNames (take i rs)) (getD (writtenAt rs i) j SourceGraphic) ≡ some (rule (labels (owns (take i cs))) (getD (inputsAt cs i) j none))

@@ -28,8 +28,8 @@ abbrev pub w-StrokePaint : Name
 w-StrokePaint = word "StrokePaint"
 
 -- the four inputs that are not supported. The document: each is an image of its own. The crate: each is taken for SourceGraphic
-abbrev pub unsupported : List Name
-unsupported = w-BackgroundImage ∷ w-BackgroundAlpha ∷ w-FillPaint ∷ w-StrokePaint ∷ []
+abbrev pub unsupportedInputs : List Name
+unsupportedInputs = w-BackgroundImage ∷ w-BackgroundAlpha ∷ w-FillPaint ∷ w-StrokePaint ∷ []
 
 -- `parse_in`: a reserved word is never a name. The document: a name is an identifier. The crate: every other text is one, the empty one too, and it is
 -- compared byte for byte
@@ -37,7 +37,7 @@ unfoldable pub parseIn : Name → Input
 parseIn t =
     cond (same t w-SourceGraphic) SourceGraphic
     (cond (same t w-SourceAlpha) SourceAlpha
-    (cond (member t unsupported) SourceGraphic
+    (cond (member t unsupportedInputs) SourceGraphic
     (Reference t)))
 
 abbrev pub lastOf : Name → List Name → Name

@@ -31,13 +31,13 @@ unfoldable pub madeName : ℕ → Name
 madeName n = w-result ++ digits n
 
 -- the first number from k on whose made name is none of some names, where one of the first f + 1 is such
-unfoldable pub freeUpTo : ℕ → List Name → ℕ → ℕ
-freeUpTo zero ns k = k
-freeUpTo (suc f) ns k = let r = freeUpTo f ns (k + 1) in cond (member (madeName k) ns) r k
+unfoldable pub firstFreeUpTo : ℕ → List Name → ℕ → ℕ
+firstFreeUpTo zero ns k = k
+firstFreeUpTo (suc f) ns k = let r = firstFreeUpTo f ns (k + 1) in cond (member (madeName k) ns) r k
 
 -- that is so for f the number of names: `free-is-free` of proofs/Naming
-unfoldable pub free : List Name → ℕ → ℕ
-free ns k = freeUpTo (length ns) ns k
+unfoldable pub firstFree : List Name → ℕ → ℕ
+firstFree ns k = firstFreeUpTo (length ns) ns k
 
 -- what a child's result is called: by its own `result` attribute, or by the number that its name is made of
 pub data Label : Type 0 where
@@ -67,7 +67,7 @@ namesSoFar st = map nameOf (st .labels)
 
 -- the number for the next made name: the counter's, or the next that skips the explicit names so far
 abbrev pub nextFree : Results → ℕ
-nextFree st = free (ownNames (st .labels)) (st .idx)
+nextFree st = firstFree (ownNames (st .labels)) (st .idx)
 
 -- `gen_result`: the label of a child whose `result` attribute is given, or absent
 abbrev pub label : Results → Option Name → Label
@@ -75,12 +75,12 @@ label st (some t) = Own t
 label st none = Made (nextFree st)
 
 -- the counter goes on by 1 for an explicit result, and by 1 for each number that is skipped or used
-abbrev pub counted : Results → Option Name → ℕ
-counted st (some t) = st .idx + 1
-counted st none = nextFree st + 1
+abbrev pub counterAfter : Results → Option Name → ℕ
+counterAfter st (some t) = st .idx + 1
+counterAfter st none = nextFree st + 1
 
 abbrev pub after : Results → Option Name → Results
-after st o = record { labels = st .labels ++ (label st o ∷ []); idx = counted st o }
+after st o = record { labels = st .labels ++ (label st o ∷ []); idx = counterAfter st o }
 
 unfoldable pub afterAll : Results → List (Option Name) → Results
 afterAll st [] = st

@@ -15,7 +15,8 @@ use lib.Ieee.Bits.{is-false}
 use lib.Ieee.Exact.{HasValue}
 use Rattle.num.specs.Numbers.{IsNumber}
 use Rattle.num.proofs.Patterns.{fields-low, fields-normal, ofBits-fields}
-use Rattle.num.specs.Whole.{halfUp, cutSize, awaySize, heldSigned, octavesOf}
+use Rattle.num.specs.Whole.{halfUp, octavesOf}
+use Rattle.num.specs.Means.{cutSize, awaySize, heldSigned}
 use Rattle.num.specs.Sign.{signNegative}
 
 -- x is finite and has the sign s

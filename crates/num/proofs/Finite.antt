@@ -11,7 +11,8 @@ use lib.Ieee.Scale.{finite}
 use Rattle.num.proofs.Laws.{finite-num}
 use Rattle.num.proofs.Patterns.{finite-bits}
 use Rattle.num.specs.declared.Number.the-variants.{Finite, Not}
-use Rattle.num.specs.Narrowed.{narrowed, numberOf, pick, orZero, singleOf, doubleOf}
+use Rattle.num.specs.Narrowed.{narrowed, orZero}
+use Rattle.num.specs.Means.{ifFinite, pickNumber, singleOf, doubleOf}
 use Rattle.num.specs.Constants.{plusZero}
 
 pub narrowed-fits : (x : Float) → T (fits binary32 (narrowed x))
@@ -38,13 +39,13 @@ module _ (n : ℕ) where
   pub bits-num : n % 2147483648 < 2139095040 → T (not (nanBits binary32 n))
   bits-num h = subst (λ (b : Bool). T (not b)) (sym (nanBits-is binary32 n)) (finite-num (ofBits binary32 n) (subst T (sym (yes h)) tt))
 
-  pub number-yes : n % 2147483648 < 2139095040 → Finite (ofBits binary32 n) ≡ numberOf (ofBits binary32 n)
-  unfolding numberOf
-  number-yes h = ap (λ (t : Bool). pick t (Finite (ofBits binary32 n)) Not) (sym (yes h))
+  pub number-yes : n % 2147483648 < 2139095040 → Finite (ofBits binary32 n) ≡ ifFinite (ofBits binary32 n)
+  unfolding ifFinite
+  number-yes h = ap (λ (t : Bool). pickNumber t (Finite (ofBits binary32 n)) Not) (sym (yes h))
 
-  pub number-no : 2139095040 ≤ n % 2147483648 → Not ≡ numberOf (ofBits binary32 n)
-  unfolding numberOf
-  number-no h = ap (λ (t : Bool). pick t (Finite (ofBits binary32 n)) Not) (sym (no h))
+  pub number-no : 2139095040 ≤ n % 2147483648 → Not ≡ ifFinite (ofBits binary32 n)
+  unfolding ifFinite
+  number-no h = ap (λ (t : Bool). pickNumber t (Finite (ofBits binary32 n)) Not) (sym (no h))
 
   pub single-yes : n % 2147483648 < 2139095040 → ofBits binary32 n ≡ singleOf n
   unfolding singleOf orZero

@@ -7,7 +7,7 @@ use native.Mathlib.Omega.{arith}
 use lib.ListN.{length, getD}
 use lib.Ieee.{Float}
 use Rattle.bits.specs.Bytes.{le32}
-use Rattle.num.specs.Narrowed.{singleOf}
+use Rattle.num.specs.Means.{singleOf}
 use Rattle.num.specs.Lists.{numbersFrom}
 
 pub numbers-length : (s : List ℕ) (at n : ℕ) → length (numbersFrom s at n) ≡ n

@@ -11,7 +11,8 @@ use lib.Ieee.Fits.{down-pos}
 use lib.Ieee.Exact.{HasValue}
 use lib.Ieee.Nearest.{div-same}
 use Rattle.num.proofs.Patterns.{fields-low, fields-normal}
-use Rattle.num.specs.Whole.{halfUp, cutSize, awaySize}
+use Rattle.num.specs.Whole.{halfUp}
+use Rattle.num.specs.Means.{cutSize, awaySize}
 
 halves : (M D a c : ℕ) → M * c ≡ a * D → (M * 2 + D) * (c * 2) ≡ (a * 2 + c) * (D * 2)
 halves M D a c h =

@@ -18,7 +18,8 @@ use lib.Ieee.Exact.{HasValue, units-val, round-exact}
 use lib.Ieee.Back.{round-whole}
 use lib.Ieee.Nearest.{div-same}
 use Rattle.num.proofs.Patterns.{toBits-value, units-bits, finite-bits}
-use Rattle.num.specs.Whole.{halfUp, awaySize, rounded}
+use Rattle.num.specs.Whole.{halfUp, rounded}
+use Rattle.num.specs.Means.{awaySize}
 use Rattle.num.proofs.Sizes.{away-at, away-whole, away-tiny, lead-lt, lead-ge}
 use Rattle.num.proofs.Ends.{Sign, is, signed}
 

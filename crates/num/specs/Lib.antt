@@ -2,5 +2,6 @@ pub mod Constants
 pub mod Numbers
 pub mod Narrowed
 pub mod Whole
+pub mod Means
 pub mod Sign
 pub mod Lists

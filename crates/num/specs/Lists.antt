@@ -4,7 +4,7 @@ use mathlib.Core.List.{List, [], _∷_}
 use lib.Ieee.{Float}
 use Rattle.bits.specs.Bytes.{le32}
 use Rattle.num.specs.declared.Numbers.{Numbers}
-use Rattle.num.specs.Narrowed.{singleOf}
+use Rattle.num.specs.Means.{singleOf}
 
 -- n numbers from a place on, four bytes each
 unfoldable pub numbersFrom : List ℕ → ℕ → ℕ → List Float

@@ -1,28 +1,11 @@
 -- Floats as whole numbers: cut toward zero, and rounded half away from zero. Definitions only.
 use Prim.Native.Nat.{ℕ, _+_, _*_, _/_, min}
-use mathlib.Core.Bool.{Bool, cond}
-use lib.IntN.{ℤ, pos, negℤ}
+use mathlib.Core.Bool.{cond}
 use lib.Ieee.{Float, nan, inf, fin, binary32, up, down, round}
 
 -- the fraction a / c to the nearest whole number, a half up
 abbrev pub halfUp : ℕ → ℕ → ℕ
 halfUp a c = (a * 2 + c) / (c * 2)
-
--- |x| without its fraction, for a finite x
-unfoldable pub cutSize : Float → ℕ
-cutSize nan = 0
-cutSize (inf s) = 0
-cutSize (fin s m e) = m * up e / down e
-
--- |x| to the nearest whole number, a half away from zero, for a finite x
-unfoldable pub awaySize : Float → ℕ
-awaySize nan = 0
-awaySize (inf s) = 0
-awaySize (fin s m e) = halfUp (m * up e) (down e)
-
--- the i32 with this sign and size, held at both ends
-unfoldable pub heldSigned : Bool → ℕ → ℤ
-heldSigned s w = cond s (negℤ (pos (min w 2147483648))) (pos (min w 2147483647))
 
 -- the number of octaves: the nearest whole number, a half away from zero, held at the ends of u32. A set sign, that of -0 too, gives 0, and so does a NaN
 unfoldable pub octavesOf : Float → ℕ

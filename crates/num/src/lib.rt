@@ -7,9 +7,10 @@ ghost use lib.ListN.{length, getD};
 ghost use lib.Ieee.{binary32, binary64, ofFields, ofBits, toBits, toSigned};
 ghost use lib.Ieee.Nearest.{closest};
 ghost use lib.Ieee.Scale.{finite};
-ghost use Rattle.num.specs.Narrowed.{narrowed, numberOf, singleOf, doubleOf};
+ghost use Rattle.num.specs.Narrowed.{narrowed};
+ghost use Rattle.num.specs.Means.{ifFinite, singleOf, doubleOf, cutSize, awaySize, heldSigned};
 ghost use Rattle.num.specs.Constants.{plusZero};
-ghost use Rattle.num.specs.Whole.{cutSize, awaySize, heldSigned, octavesOf, rounded};
+ghost use Rattle.num.specs.Whole.{octavesOf, rounded};
 ghost use Rattle.num.specs.Sign.{positive, signNegative, nearZero, f32Bound};
 ghost use Rattle.num.specs.Lists.{numbersIs};
 use bits::bits_of;
@@ -150,7 +151,7 @@ pub enum Number {
 
 // An f32's bits as a number, where they are a finite one's.
 pub fn take_single(bits: u32) -> Number
-    ensures { λ r. ⌜ r ≡ numberOf (ofBits binary32 bits) ⌝ }
+    ensures { λ r. ⌜ r ≡ ifFinite (ofBits binary32 bits) ⌝ }
 {
     if bits % 0x8000_0000 < 0x7f80_0000 {
         return Number::Finite(f32::from_bits(bits));
@@ -160,7 +161,7 @@ pub fn take_single(bits: u32) -> Number
 
 // An f64's bits as an f32, where both are finite.
 pub fn take_number(bits: u64) -> Number
-    ensures { λ r. ⌜ r ≡ numberOf (narrowed (ofBits binary64 bits)) ⌝ }
+    ensures { λ r. ⌜ r ≡ ifFinite (narrowed (ofBits binary64 bits)) ⌝ }
 {
     take_single(narrow(bits))
 }

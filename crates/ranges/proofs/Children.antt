@@ -21,10 +21,10 @@ use Rattle.subregion.specs.declared.Subregion.the-variants as region
 use Rattle.subregion.specs.Subregions.{regionOf}
 use Rattle.fe.specs.ColorInterpolation.{colorInterpolationOf}
 use Rattle.child.specs.Child.{Child}
-use Rattle.elements.specs.Elements.{Made, made, unsupported, Tagged, _gives_, byTag, kindOf}
+use Rattle.elements.specs.Elements.{ElementKind, made, noPrimitive, Tagged, _gives_, byTag, kindOf}
 use Rattle.elements.specs.Elements as element
 use Rattle.chain.specs.Chain as chain
-use Rattle.chain.specs.Chain.{Step, pass, end, count, kindStep, regionStep, stepOf, Chain, kept, put, follow}
+use Rattle.chain.specs.Chain.{Step, pass, end, count, kindStep, regionStep, stepOf, Chain, kept, keepFirst, follow}
 
 -- the child that a node is, with its subregion and its kind
 abbrev pub childOf : Node → Rect → Kind (Option Name) → Child
@@ -37,18 +37,18 @@ abbrev pub AnyRefusal : Refusal → Type 0
 AnyRefusal r = Unit {0}
 
 module _ (K : Kind (Option Name) → Type 0) (R : Refusal → Type 0) where
-  abbrev pub MadeAll : Made → Type 0
+  abbrev pub MadeAll : ElementKind → Type 0
   MadeAll (made k) = K k
-  MadeAll unsupported = Unit {0}
+  MadeAll noPrimitive = Unit {0}
   MadeAll (element.refused why) = R why
 
 -- what holds of everything that the tags of a table give, and of a tag without a primitive, holds of what any tag gives
-module _ (P : Made → Type 0) (other : P unsupported) where
+module _ (P : ElementKind → Type 0) (other : P noPrimitive) where
   abbrev pub All : List Tagged → Type 0
   All [] = Unit {0}
   All ((t gives m) ∷ rest) = P m × All rest
 
-  either : (b : Bool) (x y : Made) → P x → P y → P (cond b x y)
+  either : (b : Bool) (x y : ElementKind) → P x → P y → P (cond b x y)
   either true x y h k = h
   either false x y h k = k
 
@@ -75,7 +75,7 @@ module _ (P : Child → Type 0) where
     ChainAll (chain.refused why) = R why
     ChainAll (kept cs) = ChildrenAll cs
 
-    put-all : (c : Child) (rest : Chain) → P c → ChainAll rest → ChainAll (put c rest)
+    put-all : (c : Child) (rest : Chain) → P c → ChainAll rest → ChainAll (keepFirst c rest)
     put-all c (chain.refused why) h k = k
     put-all c (kept cs) h k = (h, k)
 
@@ -90,9 +90,9 @@ module _ (P : Child → Type 0) where
         (kind : (n : Node) (rest : List Node) → N (n ∷ rest) → MadeAll K R (kindOf f n (childNodes rest)))
         (child : (n : Node) (rest : List Node) → N (n ∷ rest) → (r : Rect) → regionOf f n ≡ region.Is r → (k : Kind (Option Name)) → K k → P (childOf n r k))
         (behind : (n : Node) (rest : List Node) → N (n ∷ rest) → N rest) where
-      kind-step : (n : Node) (r : Rect) (m : Made) → ((k : Kind (Option Name)) → K k → P (childOf n r k)) → MadeAll K R m → StepAll (kindStep n r m)
+      kind-step : (n : Node) (r : Rect) (m : ElementKind) → ((k : Kind (Option Name)) → K k → P (childOf n r k)) → MadeAll K R m → StepAll (kindStep n r m)
       kind-step n r (made k) c h = c k h
-      kind-step n r unsupported c h = tt
+      kind-step n r noPrimitive c h = tt
       kind-step n r (element.refused why) c h = h
 
       region-step : (n : Node) (rest : List Node) → N (n ∷ rest) → (m : Subregion) → regionOf f n ≡ m → StepAll (regionStep f n (childNodes rest) m)
@@ -120,7 +120,7 @@ abbrev pub ChainFew : ℕ → Chain → Type 0
 ChainFew n (chain.refused why) = Unit {0}
 ChainFew n (kept cs) = length cs ≤ n
 
-put-few : (n : ℕ) (c : Child) (rest : Chain) → ChainFew n rest → ChainFew (suc n) (put c rest)
+put-few : (n : ℕ) (c : Child) (rest : Chain) → ChainFew n rest → ChainFew (suc n) (keepFirst c rest)
 put-few n c (chain.refused why) k = tt
 put-few n c (kept cs) k = omega (arith, k)
 

@@ -13,7 +13,7 @@ use Rattle.num.proofs.Laws.{finite-num, plus}
 use Rattle.geom.specs.Geometry as geometry
 use Rattle.svgtree.specs.Values.{Node}
 use Rattle.tree.specs.Kinds.{Kind, Blend, ColorMatrix, ComponentTransfer, Composite, ConvolveMatrix, DiffuseLighting, DisplacementMap, DropShadow, Flood, GaussianBlur, Image, Merge, Morphology, Offset, SpecularLighting, Tile, Turbulence, ConvolveMatrixFields, mapKind}
-use Rattle.child.specs.Means.{inOf}
+use Rattle.child.specs.Child.{inOf}
 use Rattle.region.specs.declared.Frame.{Frame}
 use Rattle.subregion.specs.Subregions.{scaleOf}
 use Rattle.subregion.proofs.Numbers.{Positive}
@@ -34,7 +34,7 @@ use Rattle.fe_color.specs.Ranges.{colorMatrixNumbers, componentTransferNumbers,
 use Rattle.num.proofs.Each.{each-num, each-append, _and_}
 use Rattle.fe_color.proofs.Numbers.{color-matrix-finite, color-matrix-range, component-transfer-finite, operator-finite}
 use Rattle.fe_kernel.specs.ConvolveMatrix.{convolveMatrixOf}
-use Rattle.fe_kernel.specs.Ranges.{ConvolveMatrixOk}
+use Rattle.fe_kernel.specs.ProofRanges.{ConvolveMatrixOk}
 use Rattle.fe_kernel.proofs.Ranges.{convolve-matrix-ok}
 use Rattle.fe_light.specs.declared.diffuse_lighting.MaybeDiffuseLighting.{MaybeDiffuseLighting}
 use Rattle.fe_light.specs.declared.diffuse_lighting.MaybeDiffuseLighting.the-variants as diffuse
@@ -42,7 +42,8 @@ use Rattle.fe_light.specs.declared.specular_lighting.MaybeSpecularLighting.{May
 use Rattle.fe_light.specs.declared.specular_lighting.MaybeSpecularLighting.the-variants as specular
 use Rattle.fe_light.specs.DiffuseLighting.{diffuseLightingOf}
 use Rattle.fe_light.specs.SpecularLighting.{specularLightingOf}
-use Rattle.fe_light.specs.Ranges.{diffuseNumbers, specularNumbers, DiffuseOk, SpecularOk}
+use Rattle.fe_light.specs.Ranges.{diffuseNumbers, specularNumbers}
+use Rattle.fe_light.specs.ProofRanges.{DiffuseOk, SpecularOk}
 use Rattle.fe_light.proofs.Ranges.{diffuse-ok, specular-ok}
 use Rattle.fe_morphology.specs.declared.MaybeMorphology.{MaybeMorphology}
 use Rattle.fe_morphology.specs.declared.MaybeMorphology.the-variants as morphology
@@ -53,13 +54,13 @@ use Rattle.fe_turbulence.specs.declared.MaybeTurbulence.the-variants as turbule
 use Rattle.fe_morphology.specs.Morphology.{morphologyOf}
 use Rattle.fe_displacement_map.specs.DisplacementMap.{displacementMapOf}
 use Rattle.fe_turbulence.specs.Turbulence.{turbulenceOf}
-use Rattle.fe_morphology.specs.Ranges.{MorphologyOk}
-use Rattle.fe_displacement_map.specs.Ranges.{DisplacementMapOk}
-use Rattle.fe_turbulence.specs.Ranges.{TurbulenceOk}
+use Rattle.fe_morphology.specs.ProofRanges.{MorphologyOk}
+use Rattle.fe_displacement_map.specs.ProofRanges.{DisplacementMapOk}
+use Rattle.fe_turbulence.specs.ProofRanges.{TurbulenceOk}
 use Rattle.fe_morphology.proofs.Ranges.{morphology-ok}
 use Rattle.fe_displacement_map.proofs.Ranges.{displacement-map-ok}
 use Rattle.fe_turbulence.proofs.Ranges.{turbulence-ok}
-use Rattle.elements.specs.Elements.{Made, made, elements, kindOf, convolveMade, diffuseMade, specularMade, morphologyMade, displacementMade, turbulenceMade}
+use Rattle.elements.specs.Elements.{ElementKind, made, elements, kindOf, convolveMade, diffuseMade, specularMade, morphologyMade, displacementMade, turbulenceMade}
 use Rattle.ranges.specs.Numbers.{kindNumbers, InRange}
 use Rattle.ranges.proofs.Children.{MadeAll, AnyRefusal, All, by-tag}
 
@@ -92,7 +93,7 @@ map-sound f (Turbulence v) h = record { numbers = h .numbers; ranges = h .ranges
 
 -- ---- what an element gives; a refusal has no numbers
 
-abbrev pub MadeSound : Made → Type 0
+abbrev pub MadeSound : ElementKind → Type 0
 MadeSound m = MadeAll KindSound AnyRefusal m
 
 flood-sound : MadeSound (made (Flood transparentBlack))
@@ -134,7 +135,7 @@ pub record FloodOk (n : Node) : Type 0 where
   pub alpha : T (leb (floodColor n .alpha) 255)
   pub opacity : T (opacityIn (numberOr n AId·FloodOpacity one))
 
-above-plus : (x : Float) → lt geometry.zero x ≡ true → T (plus x)
+above-plus : (x : Float) → lt geometry.zeroF32 x ≡ true → T (plus x)
 unfolding lt
 above-plus nan e = absurd (true≢false (sym e))
 above-plus (inf false) e = tt

@@ -27,7 +27,7 @@ use Rattle.subregion.specs.Subregions.{scaleOf}
 use Rattle.subregion.proofs.Numbers.{subregion-refusal}
 use Rattle.fe.proofs.Numbers.{ListHolds, numbers-finite, plus-positive}
 use Rattle.num.specs.Numbers.{IsFinite}
-use Rattle.fe.specs.Pairs.{both, pairIn, signsClear, ifPositive}
+use Rattle.fe.specs.Pairs.{pairOf, pairIn, signsClear, ifPositive}
 use Rattle.fe_morphology.specs.Morphology.{morphologyOf}
 use Rattle.fe_displacement_map.specs.DisplacementMap.{displacementMapOf}
 use Rattle.fe_turbulence.specs.Turbulence.{frequencyOf, turbulenceWith}
@@ -49,7 +49,7 @@ use Rattle.fe_light.specs.SpecularLighting.{specularLightingOf}
 use Rattle.fe_kernel.specs.ConvolveMatrix.{convolveMatrixOf}
 use Rattle.fe.proofs.Pairs.{pair-holds}
 use Rattle.child.specs.Child.{Child}
-use Rattle.elements.specs.Elements.{Made, elements, kindOf, convolveMade, diffuseMade, specularMade, morphologyMade, displacementMade, turbulenceMade}
+use Rattle.elements.specs.Elements.{ElementKind, elements, kindOf, convolveMade, diffuseMade, specularMade, morphologyMade, displacementMade, turbulenceMade}
 use Rattle.chain.specs.Chain as chain
 use Rattle.ranges.proofs.Children.{MadeAll, by-tag, ChainAll, chain-all}
 use Rattle.num.proofs.Each.{_and_}
@@ -81,7 +81,7 @@ frequency-given : (o : Option (List Float)) → ListHolds IsFinite o → Given (
 frequency-given none h = tt
 frequency-given (some xs) h = go (signsClear (pairIn xs)) (λ c. c)
   where
-    go : (b : Bool) → (T b → T (signsClear (pairIn xs))) → Given (cond b (ifPositive (pairIn xs)) (maybe-pair.Is (both plusZero plusZero)))
+    go : (b : Bool) → (T b → T (signsClear (pairIn xs))) → Given (cond b (ifPositive (pairIn xs)) (maybe-pair.Is (pairOf plusZero plusZero)))
     go true f = clear-given (pairIn xs) (pair-holds IsFinite zero-finite xs h .0) (pair-holds IsFinite zero-finite xs h .1) (f tt)
     go false f = tt
 
@@ -93,7 +93,7 @@ NotSeven r = r ≡ BadFrequency → ⊥
 abbrev AnyKind : Kind (Option Name) → Type 0
 AnyKind k = Unit {0}
 
-abbrev MadeGoes : Made → Type 0
+abbrev MadeGoes : ElementKind → Type 0
 MadeGoes m = MadeAll AnyKind NotSeven m
 
 six-goes : {why : Refusal} → why ≡ Unrepresentable → NotSeven why

@@ -13,7 +13,7 @@ use Rattle.num.specs.Sign.{opacityIn}
 use Rattle.geom.specs.declared.Rect.{Rect}
 use Rattle.geom.proofs.Rectangles.{Numbers}
 use Rattle.svgtree.specs.Values.{Value, absent, textValue, numberValue, numbersValue, lengthValue, colorValue, triesValue, Node}
-use Rattle.svgtree.specs.Readers.{numberIn, colorIn, lookup, orElse, childNodes}
+use Rattle.svgtree.specs.Readers.{numberIn, colorIn, valueUnder, orDefault, childNodes}
 use Rattle.sheet_check.specs.Numbers.{opacityOk}
 use Rattle.sheet_accepted.specs.Nodes.{AcceptedValue, AcceptedNode, AcceptedNodes}
 use Rattle.sheet_accepted.proofs.Accepted.{accepted-rest}
@@ -49,7 +49,7 @@ ends : T (opacityIn plusZero) × T (opacityIn one)
 unfolding opacityIn ofBits le
 ends = (tt, tt)
 
-value-opacity : (v : Value) → T (opacityOk v) → T (opacityIn (orElse (numberIn v) one))
+value-opacity : (v : Value) → T (opacityOk v) → T (opacityIn (orDefault (numberIn v) one))
 unfolding opacityOk numberIn orZero
 value-opacity absent h = ends .1
 value-opacity (textValue t) h = ends .1
@@ -66,8 +66,8 @@ value-opacity (triesValue t) h = ends .1
 flood-ok : (n : Node) → AcceptedNode n → FloodOk n
 flood-ok n h =
     record {
-      alpha = value-alpha (lookup AId·FloodColor (n .attributes)) (h .value AId·FloodColor);
-      opacity = value-opacity (lookup AId·FloodOpacity (n .attributes)) (h .opacity);
+      alpha = value-alpha (valueUnder AId·FloodColor (n .attributes)) (h .value AId·FloodColor);
+      opacity = value-opacity (valueUnder AId·FloodOpacity (n .attributes)) (h .opacity);
     }
 
 -- ---- a child that counts, and the chain

@@ -15,8 +15,8 @@ use Rattle.svgtree.specs.Values.{Node}
 use Rattle.svgtree.specs.Readers.{childNodes}
 use Rattle.svgtree.specs.Parse.{countOf, nodeAt, nodesFrom, headerOf, sheetOf}
 use Rattle.field_tests.specs.Tests.{all}
-use Rattle.sheet_layout.specs.Records.{recordAt, recordsFrom}
-use Rattle.sheet_layout.specs.Layout.{recordOk, layoutOk}
+use Rattle.sheet_layout.specs.Records.{nodeRecordAt, nodeRecordsFrom}
+use Rattle.sheet_layout.specs.Layout.{nodeRecordOk, layoutOk}
 use Rattle.sheet_layout.proofs.Offsets.{records-ok}
 use Rattle.sheet_check.specs.Numbers.{nodeNumbersOk, headerNumbersOk, numbersOk}
 use Rattle.sheet_check.specs.Refusals.{noImage, tooLarge, firstRefusal}
@@ -73,17 +73,17 @@ nodes-length s i zero = refl
 nodes-length s i (suc n) = ap suc (nodes-length s (i + 1) n)
 
 module _ (s : List ℕ) (bytes : (i : ℕ) → getD s i 0 < 256) where
-  each-accepted : (i n : ℕ) → T (all recordOk (recordsFrom s i n)) → T (all nodeNumbersOk (nodesFrom s i n)) → EachAccepted (nodesFrom s i n)
-  unfolding all recordsFrom nodesFrom
+  each-accepted : (i n : ℕ) → T (all nodeRecordOk (nodeRecordsFrom s i n)) → T (all nodeNumbersOk (nodesFrom s i n)) → EachAccepted (nodesFrom s i n)
+  unfolding all nodeRecordsFrom nodesFrom
   each-accepted i zero h k = tt
   each-accepted i (suc n) h k =
-      let records = all recordOk (recordsFrom s (i + 1) n) in
+      let records = all nodeRecordOk (nodeRecordsFrom s (i + 1) n) in
       let nodes = all nodeNumbersOk (nodesFrom s (i + 1) n) in (
         record {
-          value = record-fit s bytes i (and-l (recordOk (recordAt s i)) records h);
+          value = record-fit s bytes i (and-l (nodeRecordOk (nodeRecordAt s i)) records h);
           opacity = node-opacity (nodeAt s i) (and-l (nodeNumbersOk (nodeAt s i)) nodes k);
         },
-        each-accepted (i + 1) n (and-r (recordOk (recordAt s i)) records h) (and-r (nodeNumbersOk (nodeAt s i)) nodes k),
+        each-accepted (i + 1) n (and-r (nodeRecordOk (nodeRecordAt s i)) records h) (and-r (nodeNumbersOk (nodeAt s i)) nodes k),
       )
 
   pub accepted-nodes : firstRefusal s ≡ checked.Passed → AcceptedNodes (sheetOf s .nodes)

@@ -18,8 +18,8 @@ use Rattle.sheet_fields.specs.Fields.{Kind·Unreadable, Kind·Text, Kind·Numbe
 use Rattle.sheet_fields.specs.Fields.{Size·TextMost, Size·Number, Size·NumbersMost, Size·Length, Size·Color, Size·Tries, Unit·Percent}
 use Rattle.svgtree.specs.Parse.{attributeKind, attributeLength, valuePlace, placesOf, offsetOf}
 use Rattle.field_tests.specs.Tests.{all}
-use Rattle.sheet_layout.specs.Records.{entryAt, recordAt}
-use Rattle.sheet_layout.specs.Layout.{triesOk, bytesOk, wordOk, entryOk, recordOk}
+use Rattle.sheet_layout.specs.Records.{entryAt, nodeRecordAt}
+use Rattle.sheet_layout.specs.Layout.{triesOk, bytesOk, wordOk, entryOk, nodeRecordOk}
 use Rattle.sheet_layout.proofs.Offsets.{record-entries}
 
 -- the `len` bytes from `at` on are those of a value of the kind
@@ -96,6 +96,6 @@ module _ (s : List ℕ) where
       let rest = all (entryOk depth) (map (entryAt s) ps) in
       (entry-kind depth p (and-l (entryOk depth (entryAt s p)) rest h), entries-kind depth ps (and-r (entryOk depth (entryAt s p)) rest h))
 
-  pub record-kinds : (i : ℕ) → T (recordOk (recordAt s i)) → Each (InKindAt s) (placesOf s (offsetOf s i))
-  unfolding recordAt
-  record-kinds i h = entries-kind (recordAt s i .depth) (placesOf s (offsetOf s i)) (record-entries (recordAt s i) h)
+  pub record-kinds : (i : ℕ) → T (nodeRecordOk (nodeRecordAt s i)) → Each (InKindAt s) (placesOf s (offsetOf s i))
+  unfolding nodeRecordAt
+  record-kinds i h = entries-kind (nodeRecordAt s i .depth) (placesOf s (offsetOf s i)) (record-entries (nodeRecordAt s i) h)

@@ -9,13 +9,14 @@ use lib.ListN.{length, getD}
 use Rattle.bits.specs.Bytes.{bytesFrom}
 use Rattle.bits.proofs.Runs.{length-bytesFrom}
 use Rattle.num.specs.Numbers.{Each}
-use Rattle.sheet_fields.specs.Fields.{Header·FilterUnits, Header·PrimitiveUnits, Header·BoxPresent, Header·BoxX, Header·BoxY, Header·BoxWidth, Header·BoxHeight, Header·ViewBoxWidth}
+use Rattle.sheet_fields.specs.Fields.{Header·FilterUnits, Header·PrimitiveUnits, Header·BoxPresent, Header·BoxX, Header·ViewBoxWidth}
+use Rattle.sheet_fields.specs.BoxFields.{Header·BoxY, Header·BoxWidth, Header·BoxHeight}
 use Rattle.sheet_fields.specs.Fields.{Header·ViewBoxHeight, Header·Dpi, Header·FontSize, Header·X, Header·Y, Header·Width, Header·Height, Header·NodeCount, Header·Pairs}
 use Rattle.sheet_fields.specs.Fields.{Node·Tag, Node·AttributeCount, Node·FontSize, Node·Attributes, Attribute·Kind, Attribute·Length, Size·Length}
 use Rattle.svgtree.specs.Parse.{single, valueAt, attributeId, attributeKind, attributeLength, valuePlace, nextPlace, attributeAt, placesFrom, attributeCount, attributesPlace, placesOf, nodeFrom}
 use Rattle.svgtree.specs.Parse.{countOf, pairPlace, pairOffset, pairLength, offsetOf, nodeAt, nodesFrom, headerLength, headerOf, sheetOf}
 use Rattle.sheet_layout.specs.Tests.{sum}
-use Rattle.sheet_layout.specs.Records.{entryAt, entrySize, recordAt}
+use Rattle.sheet_layout.specs.Records.{entryAt, entrySize, nodeRecordAt}
 use Rattle.sheet_layout.specs.Layout.{layoutOk}
 use Rattle.sheet_layout.proofs.Offsets.{record-filled, pairs-within, record-within, offset-exact}
 use Rattle.sheet_accepted.proofs.ByKind.{InKindAt, record-kinds}
@@ -105,12 +106,12 @@ module _ (s more : List ℕ) where
 
   module _ (ok : T (layoutOk s)) (short : length s ≤ 65536) where
     number-same : (i : ℕ) → i < countOf s → nodeAt t i ≡ nodeAt s i
-    unfolding recordAt
+    unfolding nodeRecordAt
     number-same i h =
         let pairs : pairPlace (countOf s) ≤ length s = pairs-within s ok in
         let within : pairOffset s i + pairLength s i ≤ length s = record-within s ok i h .1 in
         let exact : offsetOf s i ≡ pairOffset s i = offset-exact s ok i h short in
-        let filled : Node·Attributes + filled s (placesOf s (offsetOf s i)) ≡ pairLength s i = record-filled (recordAt s i) (record-within s ok i h .0) in
+        let filled : Node·Attributes + filled s (placesOf s (offsetOf s i)) ≡ pairLength s i = record-filled (nodeRecordAt s i) (record-within s ok i h .0) in
         let place : offsetOf t i ≡ offsetOf s i = ap (λ (n : ℕ). n % 65536) (le32-same s more (pairPlace i) (omega arith)) in
         let node : nodeFrom t (offsetOf s i) ≡ nodeFrom s (offsetOf s i) = node-same (offsetOf s i) (record-kinds s i (record-within s ok i h .0)) (omega arith) in
         ap (nodeFrom t) place ∙ node

@@ -14,11 +14,11 @@ use Rattle.num.specs.Numbers.{Each}
 use Rattle.num.proofs.Each.{choose}
 use Rattle.sheet_fields.specs.Fields.{Size·TextMost, Size·Number, Size·NumbersMost}
 use Rattle.svgtree.specs.Values.{textValue}
-use Rattle.svgtree.specs.Readers.{lookup}
+use Rattle.svgtree.specs.Readers.{valueUnder}
 use Rattle.svgtree.specs.Parse.{single, singlesFrom, valueAt, attributeAt, attributeKind, attributeLength, valuePlace, placesOf, offsetOf, nodeFrom, nodeAt}
 use Rattle.field_tests.specs.Tests.{all}
-use Rattle.sheet_layout.specs.Records.{recordAt}
-use Rattle.sheet_layout.specs.Layout.{recordOk}
+use Rattle.sheet_layout.specs.Records.{nodeRecordAt}
+use Rattle.sheet_layout.specs.Layout.{nodeRecordOk}
 use Rattle.sheet_accepted.specs.Nodes.{AcceptedValue}
 use Rattle.sheet_accepted.proofs.ByKind.{InKind, unreadable, text, number, numbers, plain-length, color, tries, InKindAt, record-kinds}
 
@@ -52,14 +52,14 @@ module _ (s : List ℕ) (bytes : (i : ℕ) → getD s i 0 < 256) where
   value-fit kind at len (color e) = let b : getD s (at + 3) 0 < 256 = bytes (at + 3) in omega arith
   value-fit kind at len (tries e) = tt
 
-  attributes-fit : (ps : List ℕ) → Each (InKindAt s) ps → (id : ℕ) → AcceptedValue (lookup id (map (attributeAt s) ps))
-  unfolding lookup attributeAt
+  attributes-fit : (ps : List ℕ) → Each (InKindAt s) ps → (id : ℕ) → AcceptedValue (valueUnder id (map (attributeAt s) ps))
+  unfolding valueUnder attributeAt
   attributes-fit [] h id = tt
   attributes-fit (p ∷ ps) h id =
-      choose AcceptedValue (eqb (attributeAt s p .id) id) (attributeAt s p .value) (lookup id (map (attributeAt s) ps))
+      choose AcceptedValue (eqb (attributeAt s p .id) id) (attributeAt s p .value) (valueUnder id (map (attributeAt s) ps))
       (value-fit (attributeKind s p) (valuePlace p) (attributeLength s p) (h .0))
       (attributes-fit ps (h .1) id)
 
-  pub record-fit : (i : ℕ) → T (recordOk (recordAt s i)) → (id : ℕ) → AcceptedValue (lookup id (nodeAt s i .attributes))
+  pub record-fit : (i : ℕ) → T (nodeRecordOk (nodeRecordAt s i)) → (id : ℕ) → AcceptedValue (valueUnder id (nodeAt s i .attributes))
   unfolding nodeFrom
   record-fit i h = attributes-fit (placesOf s (offsetOf s i)) (record-kinds s i h)

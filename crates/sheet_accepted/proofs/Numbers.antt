@@ -12,7 +12,7 @@ use Rattle.num.specs.Constants.{plusZero}
 use Rattle.num.specs.Numbers.{Each}
 use Rattle.num.specs.Sign.{positive}
 use Rattle.num.proofs.Finite.{orZero-is}
-use Rattle.geom.specs.Geometry.{zero, largest, ofSize, validLength, viewBoxLength}
+use Rattle.geom.specs.Geometry.{zeroF32, largest, ofSize, validLength, viewBoxLength}
 use Rattle.names.specs.Ids.{AId·FloodOpacity}
 use Rattle.svgtree.specs.Values.{Value, absent, textValue, numberValue, numbersValue, lengthValue, colorValue, triesValue, Attribute, Node, Bounds, Header, Sheet}
 use Rattle.field_tests.specs.Tests.{all, doubleOk}
@@ -36,11 +36,11 @@ positive-given x h = orZero-is x (and-l (finite x) (le plusZero x) h)
 
 valid-given : (x : Float) → T (validLength x) → GivenSingle x
 unfolding validLength
-valid-given x h = orZero-is x (and-r (lt zero x) (finite x) h)
+valid-given x h = orZero-is x (and-r (lt zeroF32 x) (finite x) h)
 
 view-box-given : (x : Float) → T (viewBoxLength x) → GivenSingle x
 unfolding viewBoxLength
-view-box-given x h = orZero-is x (and-r (lt zero x) (finite x) (and-l (lt zero x && finite x) (lt x largest) h))
+view-box-given x h = orZero-is x (and-r (lt zeroF32 x) (finite x) (and-l (lt zeroF32 x && finite x) (lt x largest) h))
 
 -- ---- a value, and a node
 

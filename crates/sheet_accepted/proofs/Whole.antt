@@ -11,8 +11,8 @@ use Rattle.num.specs.Numbers.{Each}
 use Rattle.num.proofs.Each.{each-of}
 use Rattle.sheet_fields.specs.Fields.{Size·Number}
 use Rattle.svgtree.specs.Parse.{singlesFrom, valueAt, attributeAt, attributeKind, attributeLength, valuePlace, placesOf, offsetOf}
-use Rattle.sheet_layout.specs.Records.{recordAt}
-use Rattle.sheet_layout.specs.Layout.{recordOk}
+use Rattle.sheet_layout.specs.Records.{nodeRecordAt}
+use Rattle.sheet_layout.specs.Layout.{nodeRecordOk}
 use Rattle.sheet_accepted.specs.Given.{Whole, WholeAt}
 use Rattle.sheet_accepted.proofs.ByKind.{InKind, unreadable, text, number, numbers, plain-length, color, tries, InKindAt, record-kinds}
 use Rattle.sheet_accepted.proofs.Layouts.{singles-length, uncut}
@@ -35,5 +35,5 @@ module _ (s : List ℕ) where
   unfolding attributeAt
   attribute-whole at h = value-whole (attributeKind s at) (valuePlace at) (attributeLength s at) h
 
-  pub record-whole : (i : ℕ) → T (recordOk (recordAt s i)) → Each (WholeAt s) (placesOf s (offsetOf s i))
+  pub record-whole : (i : ℕ) → T (nodeRecordOk (nodeRecordAt s i)) → Each (WholeAt s) (placesOf s (offsetOf s i))
   record-whole i h = each-of (InKindAt s) (WholeAt s) attribute-whole (placesOf s (offsetOf s i)) (record-kinds s i h)

@@ -10,7 +10,7 @@ use lib.Ieee.{binary32, fits}
 use Rattle.bits.specs.Utf8.{utf8}
 use Rattle.names.specs.Ids.{AId·FloodOpacity}
 use Rattle.svgtree.specs.Values.{Value, absent, textValue, numberValue, numbersValue, lengthValue, colorValue, triesValue, Node}
-use Rattle.svgtree.specs.Readers.{lookup}
+use Rattle.svgtree.specs.Readers.{valueUnder}
 use Rattle.field_tests.specs.Tests.{all}
 use Rattle.sheet_check.specs.Numbers.{opacityOk}
 
@@ -26,8 +26,8 @@ AcceptedValue (triesValue t) = Unit {0}
 
 -- a node, each attribute by its id; its flood-opacity is in 0..1
 pub record AcceptedNode (n : Node) : Type 0 where
-  pub value : (id : ℕ) → AcceptedValue (lookup id (n .attributes))
-  pub opacity : T (opacityOk (lookup AId·FloodOpacity (n .attributes)))
+  pub value : (id : ℕ) → AcceptedValue (valueUnder id (n .attributes))
+  pub opacity : T (opacityOk (valueUnder AId·FloodOpacity (n .attributes)))
 
 abbrev pub EachAccepted : List Node → Type 0
 EachAccepted [] = Unit {0}

@@ -20,15 +20,6 @@ Header·Zero = 3
 abbrev pub Header·BoxX : ℕ
 Header·BoxX = 4
 
-abbrev pub Header·BoxY : ℕ
-Header·BoxY = 8
-
-abbrev pub Header·BoxWidth : ℕ
-Header·BoxWidth = 12
-
-abbrev pub Header·BoxHeight : ℕ
-Header·BoxHeight = 16
-
 abbrev pub Header·BoxSize : ℕ
 Header·BoxSize = 16
 
@@ -163,10 +154,6 @@ Space·ObjectBoundingBox = 1
 
 abbrev pub Space·Absent : ℕ
 Space·Absent = 2
-
--- "Units: 0 none, 1 em, 2 ex, 3 px, 4 in, 5 cm, 6 mm, 7 pt, 8 pc, 9 percent; in the header 255 with zero bits is absent"
-abbrev pub Unit·None : ℕ
-Unit·None = 0
 
 abbrev pub Unit·Em : ℕ
 Unit·Em = 1

@@ -1,5 +1,5 @@
 // The layout of a sheet in numbers: where its fields stand, how many bytes they have, and what stands for a kind and for a unit. Each has the
-// number of the same name in specs/Fields.antt: the contracts of the functions that use it say so.
+// number of the same name in specs/Fields.antt or specs/BoxFields.antt: the contracts of the functions that use it say so.
 
 // The part before the nodes. Its offsets are from the start of the sheet.
 pub mod header {
@@ -130,8 +130,6 @@ pub mod space {
 
 // svgtypes' units of a length.
 pub mod unit {
-    pub const NONE: u8 = 0;
-
     pub const EM: u8 = 1;
 
     pub const EX: u8 = 2;

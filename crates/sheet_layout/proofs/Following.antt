@@ -7,46 +7,46 @@ use mathlib.Core.Bool.{Bool, true, cond, not, _&&_, _||_}
 use lib.Dec.{eqb}
 use Rattle.svgtree.specs.Parse.{nodeDepth, nodeTag, pairOffset, pairLength, offsetOf}
 use Rattle.field_tests.specs.Tests.{all}
-use Rattle.sheet_layout.specs.Records.{recordAt, recordsFrom}
-use Rattle.sheet_layout.specs.Layout.{touch, recordOk, depthsOk}
+use Rattle.sheet_layout.specs.Records.{nodeRecordAt, nodeRecordsFrom}
+use Rattle.sheet_layout.specs.Layout.{touch, nodeRecordOk, depthsOk}
 
-records-none : (s : List ℕ) (i n : ℕ) → n ≡ 0 → recordsFrom s i n ≡ []
-unfolding recordsFrom
-records-none s i n e = ap (λ (k : ℕ). recordsFrom s i k) e
+records-none : (s : List ℕ) (i n : ℕ) → n ≡ 0 → nodeRecordsFrom s i n ≡ []
+unfolding nodeRecordsFrom
+records-none s i n e = ap (λ (k : ℕ). nodeRecordsFrom s i k) e
 
-records-step : (s : List ℕ) (i n : ℕ) → i < n → recordsFrom s i (n - i) ≡ recordAt s i ∷ recordsFrom s (i + 1) (n - (i + 1))
-unfolding recordsFrom
+records-step : (s : List ℕ) (i n : ℕ) → i < n → nodeRecordsFrom s i (n - i) ≡ nodeRecordAt s i ∷ nodeRecordsFrom s (i + 1) (n - (i + 1))
+unfolding nodeRecordsFrom
 records-step s i n h =
     let e : n - i ≡ suc (n - (i + 1)) = omega arith in
-    ap (λ (k : ℕ). recordsFrom s i k) e
+    ap (λ (k : ℕ). nodeRecordsFrom s i k) e
 
 -- the records from number i on, of n
 module _ (s : List ℕ) (i n : ℕ) where
   pub touch-step : (at end : ℕ) → i < n
-      → touch at end (recordsFrom s i (n - i))
-      ≡ (eqb (pairOffset s i) at && touch (at + pairLength s i) end (recordsFrom s (i + 1) (n - (i + 1))))
-  unfolding touch recordAt
+      → touch at end (nodeRecordsFrom s i (n - i))
+      ≡ (eqb (pairOffset s i) at && touch (at + pairLength s i) end (nodeRecordsFrom s (i + 1) (n - (i + 1))))
+  unfolding touch nodeRecordAt
   touch-step at end h = ap (touch at end) (records-step s i n h)
 
-  pub touch-end : (at end : ℕ) → n - i ≡ 0 → touch at end (recordsFrom s i (n - i)) ≡ eqb at end
+  pub touch-end : (at end : ℕ) → n - i ≡ 0 → touch at end (nodeRecordsFrom s i (n - i)) ≡ eqb at end
   unfolding touch
   touch-end at end h = ap (touch at end) (records-none s i (n - i) h)
 
-  pub records-ok-step : i < n → all recordOk (recordsFrom s i (n - i)) ≡ (recordOk (recordAt s i) && all recordOk (recordsFrom s (i + 1) (n - (i + 1))))
+  pub records-ok-step : i < n → all nodeRecordOk (nodeRecordsFrom s i (n - i)) ≡ (nodeRecordOk (nodeRecordAt s i) && all nodeRecordOk (nodeRecordsFrom s (i + 1) (n - (i + 1))))
   unfolding all
-  records-ok-step h = ap (all recordOk) (records-step s i n h)
+  records-ok-step h = ap (all nodeRecordOk) (records-step s i n h)
 
-  pub records-ok-end : n - i ≡ 0 → all recordOk (recordsFrom s i (n - i)) ≡ true
+  pub records-ok-end : n - i ≡ 0 → all nodeRecordOk (nodeRecordsFrom s i (n - i)) ≡ true
   unfolding all
-  records-ok-end h = ap (all recordOk) (records-none s i (n - i) h)
+  records-ok-end h = ap (all nodeRecordOk) (records-none s i (n - i) h)
 
   pub depths-step : (t : Bool) → i < n
-      → depthsOk t (recordsFrom s i (n - i))
+      → depthsOk t (nodeRecordsFrom s i (n - i))
       ≡ ((eqb (nodeDepth s (offsetOf s i)) 0 || t)
-      && depthsOk (cond (eqb (nodeDepth s (offsetOf s i)) 0) (not (eqb (nodeTag s (offsetOf s i)) 0)) t) (recordsFrom s (i + 1) (n - (i + 1))))
-  unfolding depthsOk recordAt
+      && depthsOk (cond (eqb (nodeDepth s (offsetOf s i)) 0) (not (eqb (nodeTag s (offsetOf s i)) 0)) t) (nodeRecordsFrom s (i + 1) (n - (i + 1))))
+  unfolding depthsOk nodeRecordAt
   depths-step t h = ap (depthsOk t) (records-step s i n h)
 
-  pub depths-end : (t : Bool) → n - i ≡ 0 → depthsOk t (recordsFrom s i (n - i)) ≡ true
+  pub depths-end : (t : Bool) → n - i ≡ 0 → depthsOk t (nodeRecordsFrom s i (n - i)) ≡ true
   unfolding depthsOk
   depths-end t h = ap (depthsOk t) (records-none s i (n - i) h)

@@ -16,7 +16,7 @@ use Rattle.sheet_fields.specs.Fields.{Space·Absent, Unit·Percent, Unit·Absen
 use Rattle.svgtree.specs.Parse.{countOf, pairPlace}
 use Rattle.sheet_layout.specs.Tests.{rising, sum}
 use Rattle.field_tests.specs.Tests.{all, zeros, markedOk}
-use Rattle.sheet_layout.specs.Records.{Entry, entrySize, NodeRecord, recordsFrom}
+use Rattle.sheet_layout.specs.Records.{Entry, entrySize, NodeRecord, nodeRecordsFrom}
 
 -- "Units: 0 none .. 9 percent; in the header 255 with zero bits is absent"
 unfoldable pub headerLengthOk : List ℕ → ℕ → Bool
@@ -90,15 +90,15 @@ entriesOk depth size es =
 
 -- "Node: one byte each of depth (0 .., 1 ..), tag (0 none, else 1 + place in `EId` ..), attribute count (0 for tag 0) and zero; then font size
 -- f32; attributes"
-unfoldable pub headOk : (depth tag count zeroByte : ℕ) → Bool
-headOk depth tag count zeroByte =
+unfoldable pub nodeHeadOk : (depth tag count zeroByte : ℕ) → Bool
+nodeHeadOk depth tag count zeroByte =
     leb depth 1
     && tagOk tag
     && (not (eqb tag 0) || eqb count 0)
     && eqb zeroByte 0
 
-unfoldable pub recordOk : NodeRecord → Bool
-recordOk r = headOk (r .depth) (r .tag) (r .count) (r .zero) && entriesOk (r .depth) (r .size) (r .entries)
+unfoldable pub nodeRecordOk : NodeRecord → Bool
+nodeRecordOk r = nodeHeadOk (r .depth) (r .tag) (r .count) (r .zero) && entriesOk (r .depth) (r .size) (r .entries)
 
 -- whether the last node of depth 0 has a tag, after this node
 abbrev pub taggedAfter : Bool → NodeRecord → Bool
@@ -113,6 +113,6 @@ depthsOk tagged (r ∷ rest) = (eqb (r .depth) 0 || tagged) && depthsOk (taggedA
 unfoldable pub layoutOk : List ℕ → Bool
 layoutOk s =
     headerOk s
-    && touch (pairPlace (countOf s)) (length s) (recordsFrom s 0 (countOf s))
-    && all recordOk (recordsFrom s 0 (countOf s))
-    && depthsOk false (recordsFrom s 0 (countOf s))
+    && touch (pairPlace (countOf s)) (length s) (nodeRecordsFrom s 0 (countOf s))
+    && all nodeRecordOk (nodeRecordsFrom s 0 (countOf s))
+    && depthsOk false (nodeRecordsFrom s 0 (countOf s))

@@ -10,8 +10,8 @@ ghost use Rattle.sheet_fields.specs.Fields.{Kind·Text, Kind·Numbers, Kind·Le
 ghost use Rattle.svgtree.specs.Parse.{placesFrom, nodeDepth, nodeTag, attributeCount, nodeZero, attributesPlace, countOf, pairPlace};
 ghost use Rattle.svgtree.specs.Means.{HeadAt};
 ghost use Rattle.field_tests.specs.Tests.{all};
-ghost use Rattle.sheet_layout.specs.Records.{entryAt, recordAt, recordsFrom};
-ghost use Rattle.sheet_layout.specs.Layout.{headerLengthOk, headerLengthsOk, headerOk, touch, tryOk, bytesOk, wordOk, entryOk, entriesOk, headOk, recordOk, depthsOk, layoutOk};
+ghost use Rattle.sheet_layout.specs.Records.{entryAt, nodeRecordAt, nodeRecordsFrom};
+ghost use Rattle.sheet_layout.specs.Layout.{headerLengthOk, headerLengthsOk, headerOk, touch, tryOk, bytesOk, wordOk, entryOk, entriesOk, nodeHeadOk, nodeRecordOk, depthsOk, layoutOk};
 use bits::byte;
 use bits::is_utf8;
 use bits::run_is;
@@ -97,7 +97,7 @@ fn header_ok(s: &[u8]) -> bool
 
 // Whether the records touch, from the end of the pairs to the end of the sheet.
 fn records_touch(s: &[u8]) -> bool
-    ensures { λ r. ⌜ r ≡ touch (pairPlace (countOf (now (s .entry)))) (length (now (s .entry))) (recordsFrom (now (s .entry)) 0 (countOf (now (s .entry)))) ⌝ }
+    ensures { λ r. ⌜ r ≡ touch (pairPlace (countOf (now (s .entry)))) (length (now (s .entry))) (nodeRecordsFrom (now (s .entry)) 0 (countOf (now (s .entry)))) ⌝ }
 {
     let n = node_count(s);
     let mut at = pair_place(n);
@@ -267,7 +267,7 @@ fn count_ok(tag: u8, count: u8) -> bool
 
 fn head_ok(s: &[u8], at: usize) -> bool
     requires { ⌜ at < 65536 ⌝ }
-    ensures { λ r. ⌜ r ≡ headOk (nodeDepth (now (s .entry)) at) (nodeTag (now (s .entry)) at) (attributeCount (now (s .entry)) at) (nodeZero (now (s .entry)) at) ⌝ }
+    ensures { λ r. ⌜ r ≡ nodeHeadOk (nodeDepth (now (s .entry)) at) (nodeTag (now (s .entry)) at) (attributeCount (now (s .entry)) at) (nodeZero (now (s .entry)) at) ⌝ }
 {
     if 1 < byte(s, at) {
         return false;
@@ -283,7 +283,7 @@ fn head_ok(s: &[u8], at: usize) -> bool
 }
 
 fn record_ok(s: &[u8], i: u16) -> bool
-    ensures { λ r. ⌜ r ≡ recordOk (recordAt (now (s .entry)) i) ⌝ }
+    ensures { λ r. ⌜ r ≡ nodeRecordOk (nodeRecordAt (now (s .entry)) i) ⌝ }
 {
     let at = wide16(node_offset(s, i));
     if !head_ok(s, at) {
@@ -300,7 +300,7 @@ fn record_ok(s: &[u8], i: u16) -> bool
 }
 
 fn records_ok(s: &[u8]) -> bool
-    ensures { λ r. ⌜ r ≡ all recordOk (recordsFrom (now (s .entry)) 0 (countOf (now (s .entry)))) ⌝ }
+    ensures { λ r. ⌜ r ≡ all nodeRecordOk (nodeRecordsFrom (now (s .entry)) 0 (countOf (now (s .entry)))) ⌝ }
 {
     let n = node_count(s);
     let mut i = 0;
@@ -333,7 +333,7 @@ fn tagged_after(depth: u8, tag: u8, tagged: bool) -> bool
 }
 
 fn depths_ok(s: &[u8]) -> bool
-    ensures { λ r. ⌜ r ≡ depthsOk false (recordsFrom (now (s .entry)) 0 (countOf (now (s .entry)))) ⌝ }
+    ensures { λ r. ⌜ r ≡ depthsOk false (nodeRecordsFrom (now (s .entry)) 0 (countOf (now (s .entry)))) ⌝ }
 {
     let n = node_count(s);
     let mut tagged = false;

@@ -12,7 +12,7 @@ use Rattle.geom.specs.declared.Rect.{Rect}
 use Rattle.geom.specs.declared.Size.{Size}
 use Rattle.geom.specs.declared.MaybeRect.{MaybeRect}
 use Rattle.geom.specs.declared.MaybeRect.the-variants as rect
-use Rattle.geom.specs.Geometry.{zero, isRect, placed, widthOf, heightOf}
+use Rattle.geom.specs.Geometry.{zeroF32, isRect, placed, widthOf, heightOf}
 use Rattle.geom.proofs.Rectangles.{Made, made-size, made-placed, EdgesFit, Fitted, fits-size, fits-placed, Numbers, rect-numbers, width-above, height-above}
 use Rattle.names.specs.Ids.{AId·X, AId·Y, AId·Width, AId·Height, EId·FeFlood}
 use Rattle.svgtree.specs.Values.{Node}
@@ -26,7 +26,7 @@ use Rattle.region.specs.declared.Frame.{Frame}
 use Rattle.region.proofs.Regions.{SoundFrame}
 use Rattle.subregion.specs.declared.Subregion.{Subregion}
 use Rattle.subregion.specs.declared.Subregion.the-variants as subregion
-use Rattle.svgtree.specs.Readers.{orElse}
+use Rattle.svgtree.specs.Readers.{orDefault}
 use Rattle.subregion.specs.Subregions.{valueOr, childRect, orEnds, orRefused, userSpaceRegion, floodIn, placedChild, bboxRegion, byUnits, regionOf, unscaled, sizeIn, scaleIn, scaleOf}
 
 -- ---- what holds of the child's rectangle in user space and of everything that is placed holds of the subregion
@@ -99,7 +99,7 @@ child-made : (f : Frame) (n : Node) (x y w h : Float) → Made (childRect f n x 
 unfolding childRect
 child-made f n x y w h = made-size (valueOr f n AId·X x) (valueOr f n AId·Y y) (valueOr f n AId·Width w) (valueOr f n AId·Height h)
 
-or-fits : (m : MaybeNumber) (def : Float) → AllSingle m → T (fits binary32 def) → T (fits binary32 (orElse m def))
+or-fits : (m : MaybeNumber) (def : Float) → AllSingle m → T (fits binary32 def) → T (fits binary32 (orDefault m def))
 or-fits (maybe-number.Is x) def a d = a x refl .fits32
 or-fits maybe-number.No def a d = d
 
@@ -127,8 +127,8 @@ subregion-numbers f n q e = rect-numbers q (subregion-made f n q e)
 pub record Positive (s : Size) : Type 0 where
   pub width-finite : T (finite (s .width))
   pub height-finite : T (finite (s .height))
-  pub width-positive : lt zero (s .width) ≡ true
-  pub height-positive : lt zero (s .height) ≡ true
+  pub width-positive : lt zeroF32 (s .width) ≡ true
+  pub height-positive : lt zeroF32 (s .height) ≡ true
 
 unscaled-positive : Positive unscaled
 unfolding ofBits lt

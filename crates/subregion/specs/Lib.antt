@@ -1,1 +1,2 @@
 pub mod Subregions
+pub mod Means

@@ -12,12 +12,11 @@ use Rattle.geom.specs.declared.MaybeRect.the-variants as rect
 use Rattle.geom.specs.Geometry.{ofSize, placed, widthOf, heightOf, sizeOf}
 use Rattle.names.specs.Ids.{AId·X, AId·Y, AId·Width, AId·Height, EId·FeFlood}
 use Rattle.svgtree.specs.Values.{Node}
-use Rattle.svgtree.specs.Readers.{orElse}
+use Rattle.svgtree.specs.Readers.{orDefault}
 use Rattle.units.specs.declared.Units.{Units}
 use Rattle.units.specs.declared.Units.the-variants as units
 use Rattle.units.specs.Lengths.{tryConvertLength}
 use Rattle.region.specs.declared.Frame.{Frame}
-use Rattle.subregion.specs.declared.Defaults.{Defaults}
 use Rattle.subregion.specs.declared.Subregion.{Subregion}
 use Rattle.subregion.specs.declared.Subregion.the-variants as subregion
 
@@ -25,7 +24,7 @@ use Rattle.subregion.specs.declared.Subregion.the-variants as subregion
 
 -- an attribute of the child as a number in primitiveUnits, or this default where it is absent
 abbrev pub valueOr : Frame → Node → (aid : ℕ) → (def : Float) → Float
-valueOr frame n aid def = orElse (tryConvertLength n aid (frame .units) (frame .state)) def
+valueOr frame n aid def = orDefault (tryConvertLength n aid (frame .units) (frame .state)) def
 
 -- the rectangle of the child's x, y, width and height, if it exists, with these defaults
 unfoldable pub childRect : Frame → Node → (x y width height : Float) → MaybeRect
@@ -69,11 +68,6 @@ unfoldable pub bboxRegion : Frame → Node → Subregion
 bboxRegion frame n = placedChild (eqb (n .tag) EId·FeFlood) frame (childRect frame n plusZero plusZero one one)
 
 -- ---- by primitiveUnits
-
--- what the two take for an absent x, y, width and height
-abbrev pub defaultsIn : Units → (region : Rect) → Defaults
-defaultsIn units.UserSpaceOnUse region = record { x = region .left; y = region .top; width = widthOf region; height = heightOf region }
-defaultsIn units.ObjectBoundingBox region = record { x = plusZero; y = plusZero; width = one; height = one }
 
 abbrev pub byUnits : Units → (userSpace bbox : Subregion) → Subregion
 byUnits units.UserSpaceOnUse userSpace bbox = userSpace

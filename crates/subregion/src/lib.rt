@@ -4,9 +4,10 @@ ghost use lib.Dec.{eqb};
 ghost use Rattle.geom.specs.Geometry.{placed};
 ghost use Rattle.names.specs.Ids.{EId·FeFlood};
 ghost use Rattle.svgtree.specs.Parse.{nodeFrom};
-ghost use Rattle.svgtree.specs.Readers.{orElse};
+ghost use Rattle.svgtree.specs.Readers.{orDefault};
 ghost use Rattle.units.specs.Lengths.{converted};
-ghost use Rattle.subregion.specs.Subregions.{defaultsIn, childRect, orRefused, floodIn, placedChild, regionOf, sizeIn, scaleOf};
+ghost use Rattle.subregion.specs.Subregions.{childRect, orRefused, floodIn, placedChild, regionOf, sizeIn, scaleOf};
+ghost use Rattle.subregion.specs.Means.{defaultsIn};
 use answer::Refusal;
 use geom::MaybeRect;
 use geom::Rect;
@@ -68,7 +69,7 @@ fn value_or(
     font_size: f32,
     def: f32,
 ) -> f32
-    ensures { λ r. ⌜ r ≡ orElse (converted found aid units state «font_size») def ⌝ }
+    ensures { λ r. ⌜ r ≡ orDefault (converted found aid units state «font_size») def ⌝ }
 {
     match found {
         MaybeLength::Is(length) => convert_length(length, aid, units, state, font_size),

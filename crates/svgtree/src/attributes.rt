@@ -2,7 +2,7 @@
 ghost use mathlib.Core.Path.{_≡_};
 ghost use mathlib.Core.List.{map};
 ghost use Prim.Native.Nat.{_+_, _^_, _<_};
-ghost use Rattle.svgtree.specs.Readers.{lookup};
+ghost use Rattle.svgtree.specs.Readers.{valueUnder};
 ghost use Rattle.svgtree.specs.Parse.{valuePlace, attributeAt, placesFrom, nodeFrom};
 ghost use Rattle.svgtree.specs.Means.{foundIs, HeadAt};
 use crate::Found;
@@ -53,7 +53,7 @@ pub fn next_place(at: usize, len: u16) -> usize
 // The attribute with an id among n that stand from a place on.
 fn find_from(s: &[u8], start: usize, n: u8, id: u16) -> Found
     requires { ⌜ start < 2 ^ 24 ⌝ }
-    ensures { λ r. ⌜ foundIs (now (s .entry)) r ≡ lookup id (map (attributeAt (now (s .entry))) (placesFrom (now (s .entry)) start n)) ⌝ }
+    ensures { λ r. ⌜ foundIs (now (s .entry)) r ≡ valueUnder id (map (attributeAt (now (s .entry))) (placesFrom (now (s .entry)) start n)) ⌝ }
 {
     let mut at = start;
     let mut left = n;
@@ -73,7 +73,7 @@ fn find_from(s: &[u8], start: usize, n: u8, id: u16) -> Found
 }
 
 pub(crate) fn find(s: &[u8], at: u16, id: u16) -> Found
-    ensures { λ r. ⌜ foundIs (now (s .entry)) r ≡ lookup id (nodeFrom (now (s .entry)) at .attributes) ⌝ }
+    ensures { λ r. ⌜ foundIs (now (s .entry)) r ≡ valueUnder id (nodeFrom (now (s .entry)) at .attributes) ⌝ }
 {
     let at = wide16(at);
     find_from(

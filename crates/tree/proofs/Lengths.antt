@@ -6,12 +6,12 @@ use mathlib.Core.List.{List, [], _∷_, map}
 use lib.ListN.{length, length-append, length-map}
 use Rattle.bits.specs.Bytes.{bytes16, bytes32}
 use Rattle.geom.specs.declared.Rect.{Rect}
-use Rattle.tree.specs.Scalars.{i32Bytes, colorBytes, rectBytes, optionBytes, optionSize}
+use Rattle.tree.specs.Scalars.{i32Bytes, colorBytes, rectBytes, optionBytes}
 use Rattle.tree.specs.Kinds as kind
 use Rattle.tree.specs.Kinds.{Kind, ColorMatrixKind, Matrix, Saturate, HueRotate, LuminanceToAlpha, TransferFunction, Identity, Table, Discrete, Linear, Gamma, ComponentTransferFields, ConvolveMatrixFields, Primitive}
 use Rattle.tree.specs.Fields.{fieldBytes, colorMatrixKindBytes, transferFunctionBytes, componentTransferBytes, compositeOperatorBytes, convolveMatrixDataBytes, convolveMatrixBytes, distantLightBytes, tripleBytes, pointLightBytes, spotLightBytes, lightSourceBytes, diffuseLightingBytes, displacementMapBytes, dropShadowBytes, floodBytes, gaussianBlurBytes, morphologyBytes, offsetBytes, specularLightingBytes, turbulenceBytes}
-use Rattle.tree.specs.Sizes.{fieldSize, colorMatrixKindSize, transferFunctionSize, componentTransferSize, compositeOperatorSize, convolveMatrixSize, lightSourceSize, diffuseLightingSize, specularLightingSize}
-use Rattle.tree.specs.List.{primitiveSize, total, records, listBytes}
+use Rattle.tree.specs.Sizes.{fieldSize, colorMatrixKindSize, transferFunctionSize, componentTransferSize, compositeOperatorSize, convolveMatrixSize, lightSourceSize, diffuseLightingSize, specularLightingSize, optionSize, total}
+use Rattle.tree.specs.List.{primitiveSize, recordsBytes, listBytes}
 use Rattle.tree.specs.declared.OptionF32.{OptionF32}
 use Rattle.tree.specs.declared.OptionF32.the-variants.{None, Some}
 use Rattle.tree.specs.declared.CompositeOperator.{CompositeOperator}
@@ -138,8 +138,8 @@ length-fields (kind.Tile a) = refl
 length-fields (kind.Turbulence v) = length-turbulence v
 
 -- a list: its count, its pairs and its records
-length-records : (ps : List Primitive) → length (records ps) ≡ total (map primitiveSize ps)
-unfolding records total
+length-records : (ps : List Primitive) → length (recordsBytes ps) ≡ total (map primitiveSize ps)
+unfolding recordsBytes total
 length-records [] = refl
 length-records (p ∷ ps) = simp (length-append, length-records ps) (omega arith)
 

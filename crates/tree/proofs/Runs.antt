@@ -8,7 +8,8 @@ use lib.ListN.{length, getD, take}
 use lib.Seq.{take-suc}
 use lib.Ieee.{Float}
 use Rattle.bits.specs.Bytes.{bytes16, bytes32, bytesF}
-use Rattle.tree.specs.Scalars.{runBytes, numbersBytes, numbersSize}
+use Rattle.tree.specs.Scalars.{runBytes, numbersBytes}
+use Rattle.tree.specs.Sizes.{numbersSize}
 
 run-snoc : (xs : List Float) (x : Float) → runBytes (xs ++ (x ∷ [])) ≡ runBytes xs ++ bytesF x
 unfolding runBytes

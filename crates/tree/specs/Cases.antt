@@ -12,7 +12,7 @@ use Rattle.tree.specs.Input.{Name, SourceGraphic, SourceAlpha, Reference
 use Rattle.tree.specs.Scalars.{i32Bytes, colorBytes, rectBytes, optionBytes, runBytes, numbersBytes}
 use Rattle.tree.specs.Kinds.{Identity, Table, Linear, Gamma, Blend, ComponentTransfer, ConvolveMatrix, Flood, Merge, SpecularLighting, Tile, Turbulence}
 use Rattle.tree.specs.Fields.{transferFunctionBytes, componentTransferBytes, convolveMatrixDataBytes, convolveMatrixBytes, tripleBytes, spotLightBytes, lightSourceBytes, floodBytes, specularLightingBytes, turbulenceBytes}
-use Rattle.tree.specs.List.{inputRun, kindBytes, primitiveBytes, pairs, records, listBytes}
+use Rattle.tree.specs.List.{inputRun, kindBytes, primitiveBytes, pairsBytes, recordsBytes, listBytes}
 use Rattle.tree.specs.declared.ColorInterpolation.the-variants.{SRGB, LinearRGB}
 use Rattle.tree.specs.declared.BlendMode.the-variants.{Screen}
 use Rattle.tree.specs.declared.EdgeMode.the-variants.{Wrap}
@@ -31,15 +31,15 @@ abbrev four : Float
 four = ofBits binary32 0x4080_0000
 
 -- x 0, y 0, width 2, height 1
-abbrev region : Rect
-region = record { left = zero; top = zero; right = two; bottom = one }
+abbrev twoByOne : Rect
+twoByOne = record { left = zero; top = zero; right = two; bottom = one }
 
 -- `result` and one digit
-abbrev made : ℕ → Name
-made digit = 0x72 ∷ 0x65 ∷ 0x73 ∷ 0x75 ∷ 0x6c ∷ 0x74 ∷ digit ∷ []
+abbrev madeResult : ℕ → Name
+madeResult digit = 0x72 ∷ 0x65 ∷ 0x73 ∷ 0x75 ∷ 0x6c ∷ 0x74 ∷ digit ∷ []
 
 -- one bare feTile: count; offset 10, length 28; rectangle; linearRGB; `result1`; Tile; SourceGraphic
-pub tile-list : listBytes (record { rect = region; «color_interpolation» = LinearRGB; result = made 0x31; kind = Tile SourceGraphic } ∷ [])
+pub tile-list : listBytes (record { rect = twoByOne; «color_interpolation» = LinearRGB; result = madeResult 0x31; kind = Tile SourceGraphic } ∷ [])
     ≡ 0x01 ∷ 0x00
     ∷ 0x0a ∷ 0x00 ∷ 0x00 ∷ 0x00 ∷ 0x1c ∷ 0x00 ∷ 0x00 ∷ 0x00
     ∷ 0x00 ∷ 0x00 ∷ 0x00 ∷ 0x00 ∷ 0x00 ∷ 0x00 ∷ 0x00 ∷ 0x00 ∷ 0x00 ∷ 0x00 ∷ 0x00 ∷ 0x40 ∷ 0x00 ∷ 0x00 ∷ 0x80 ∷ 0x3f
@@ -47,13 +47,13 @@ pub tile-list : listBytes (record { rect = region; «color_interpolation» = Lin
     ∷ 0x07 ∷ 0x00 ∷ 0x72 ∷ 0x65 ∷ 0x73 ∷ 0x75 ∷ 0x6c ∷ 0x74 ∷ 0x31
     ∷ 0x0f ∷ 0x00
     ∷ []
-unfolding listBytes pairs records primitiveBytes kindBytes rectBytes textBytes inputBytes bytes16 bytes32 sub round ofBits toBits
+unfolding listBytes pairsBytes recordsBytes primitiveBytes kindBytes rectBytes textBytes inputBytes bytes16 bytes32 sub round ofBits toBits
 tile-list = refl
 
 -- an feFlood of half opacity with the result `a`, and an feBlend of mode screen in sRGB with `a` for both inputs
 pub blend-list : listBytes
-    (record { rect = region; «color_interpolation» = LinearRGB; result = 0x61 ∷ []; kind = Flood (record { color = record { red = 255; green = 128; blue = 0 }; opacity = half }) }
-    ∷ record { rect = region; «color_interpolation» = SRGB; result = made 0x32; kind = Blend (Reference (0x61 ∷ [])) (Reference (0x61 ∷ [])) Screen }
+    (record { rect = twoByOne; «color_interpolation» = LinearRGB; result = 0x61 ∷ []; kind = Flood (record { color = record { red = 255; green = 128; blue = 0 }; opacity = half }) }
+    ∷ record { rect = twoByOne; «color_interpolation» = SRGB; result = madeResult 0x32; kind = Blend (Reference (0x61 ∷ [])) (Reference (0x61 ∷ [])) Screen }
     ∷ [])
     ≡ 0x02 ∷ 0x00
     ∷ 0x12 ∷ 0x00 ∷ 0x00 ∷ 0x00 ∷ 0x1c ∷ 0x00 ∷ 0x00 ∷ 0x00 ∷ 0x2e ∷ 0x00 ∷ 0x00 ∷ 0x00 ∷ 0x24 ∷ 0x00 ∷ 0x00 ∷ 0x00
@@ -66,7 +66,7 @@ pub blend-list : listBytes
     ∷ 0x07 ∷ 0x00 ∷ 0x72 ∷ 0x65 ∷ 0x73 ∷ 0x75 ∷ 0x6c ∷ 0x74 ∷ 0x32
     ∷ 0x00 ∷ 0x02 ∷ 0x01 ∷ 0x00 ∷ 0x61 ∷ 0x02 ∷ 0x01 ∷ 0x00 ∷ 0x61 ∷ 0x02
     ∷ []
-unfolding listBytes pairs records primitiveBytes kindBytes floodBytes colorBytes rectBytes textBytes inputBytes bytes16 bytes32 sub round ofBits toBits
+unfolding listBytes pairsBytes recordsBytes primitiveBytes kindBytes floodBytes colorBytes rectBytes textBytes inputBytes bytes16 bytes32 sub round ofBits toBits
 blend-list = refl
 
 -- base frequency 0.5 and 0.25, two octaves, seed -2, stitched, fractal noise
@@ -92,7 +92,7 @@ unfolding kindBytes inputBytes convolveMatrixBytes convolveMatrixDataBytes numbe
 convolve-kind = refl
 
 -- red by a table, green linear, blue as it is, alpha by gamma
-pub transfer-kind : kindBytes (ComponentTransfer (Reference (made 0x31)) (record { «func_r» = Table (zero ∷ one ∷ []); «func_g» = Linear two half; «func_b» = Identity; «func_a» = Gamma one two half }))
+pub transfer-kind : kindBytes (ComponentTransfer (Reference (madeResult 0x31)) (record { «func_r» = Table (zero ∷ one ∷ []); «func_g» = Linear two half; «func_b» = Identity; «func_a» = Gamma one two half }))
     ≡ 0x02 ∷ 0x02 ∷ 0x07 ∷ 0x00 ∷ 0x72 ∷ 0x65 ∷ 0x73 ∷ 0x75 ∷ 0x6c ∷ 0x74 ∷ 0x31
     ∷ 0x01 ∷ 0x02 ∷ 0x00 ∷ 0x00 ∷ 0x00 ∷ 0x00 ∷ 0x00 ∷ 0x00 ∷ 0x00 ∷ 0x80 ∷ 0x3f
     ∷ 0x03 ∷ 0x00 ∷ 0x00 ∷ 0x00 ∷ 0x40 ∷ 0x00 ∷ 0x00 ∷ 0x00 ∷ 0x3f
@@ -104,7 +104,7 @@ transfer-kind = refl
 
 -- a spot light at 1, 2, 0 that is turned to 0, 0, 0, with exponent 1 and a cone of 4
 pub specular-kind : kindBytes
-    (SpecularLighting (Reference (made 0x32))
+    (SpecularLighting (Reference (madeResult 0x32))
     (record {
       «surface_scale» = one;
       «specular_constant» = one;
@@ -125,7 +125,7 @@ unfolding kindBytes inputBytes textBytes specularLightingBytes colorBytes lightS
 specular-kind = refl
 
 -- an feMerge of SourceAlpha and `result1`
-pub merge-kind : kindBytes (Merge (SourceAlpha ∷ Reference (made 0x31) ∷ []))
+pub merge-kind : kindBytes (Merge (SourceAlpha ∷ Reference (madeResult 0x31) ∷ []))
     ≡ 0x0b ∷ 0x02 ∷ 0x00 ∷ 0x01 ∷ 0x02 ∷ 0x07 ∷ 0x00 ∷ 0x72 ∷ 0x65 ∷ 0x73 ∷ 0x75 ∷ 0x6c ∷ 0x74 ∷ 0x31 ∷ []
 unfolding kindBytes inputRun inputBytes textBytes bytes16
 merge-kind = refl

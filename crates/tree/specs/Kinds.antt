@@ -5,6 +5,7 @@ use mathlib.Core.List.{List, [], _∷_, map}
 use mathlib.Core.Bool.{Bool}
 use lib.Ieee.{Float}
 use Rattle.geom.specs.declared.Rect.{Rect}
+use Rattle.num.specs.Constants.{one, plusZero as zero}
 use Rattle.tree.specs.Input.{Name, Input}
 use Rattle.tree.specs.declared.ColorInterpolation.{ColorInterpolation}
 use Rattle.tree.specs.declared.BlendMode.{BlendMode}
@@ -136,3 +137,12 @@ inputList (Vec inputs) = inputs
 
 unfoldable pub inputsOf : {A : Type 0} → Kind A → List A
 inputsOf k = inputList (inputsIn k)
+
+-- the matrix that changes nothing, a row of five for each of red, green, blue and alpha
+unfoldable pub identityMatrix : List Float
+identityMatrix =
+    one ∷ zero ∷ zero ∷ zero ∷ zero
+    ∷ zero ∷ one ∷ zero ∷ zero ∷ zero
+    ∷ zero ∷ zero ∷ one ∷ zero ∷ zero
+    ∷ zero ∷ zero ∷ zero ∷ one ∷ zero
+    ∷ []

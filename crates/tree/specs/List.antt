@@ -40,19 +40,15 @@ abbrev pub primitiveSize : Primitive → ℕ
 primitiveSize p = length (primitiveBytes p)
 
 -- records of these sizes that touch, the first of them at an offset: the pairs of offset and length
-unfoldable pub pairs : ℕ → List ℕ → List ℕ
-pairs at [] = []
-pairs at (k ∷ ks) = bytes32 at ++ bytes32 k ++ pairs (at + k) ks
+unfoldable pub pairsBytes : ℕ → List ℕ → List ℕ
+pairsBytes at [] = []
+pairsBytes at (k ∷ ks) = bytes32 at ++ bytes32 k ++ pairsBytes (at + k) ks
 
-unfoldable pub total : List ℕ → ℕ
-total [] = 0
-total (k ∷ ks) = k + total ks
-
-unfoldable pub records : List Primitive → List ℕ
-records [] = []
-records (p ∷ ps) = primitiveBytes p ++ records ps
+unfoldable pub recordsBytes : List Primitive → List ℕ
+recordsBytes [] = []
+recordsBytes (p ∷ ps) = primitiveBytes p ++ recordsBytes ps
 
 -- "u16 count, pairs as above, records touching": an offset counts from the list's first byte, so the first record begins
 -- after the count and the pairs
 unfoldable pub listBytes : List Primitive → List ℕ
-listBytes ps = bytes16 (length ps) ++ pairs (2 + 8 * length ps) (map primitiveSize ps) ++ records ps
+listBytes ps = bytes16 (length ps) ++ pairsBytes (2 + 8 * length ps) (map primitiveSize ps) ++ recordsBytes ps

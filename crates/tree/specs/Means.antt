@@ -1,9 +1,7 @@
 -- What the code's values stand for, where they hold places in the lent bytes. Definitions only.
 use Prim.Native.Nat.{ℕ}
-use mathlib.Core.List.{List, [], _∷_}
-use lib.Ieee.{Float}
+use mathlib.Core.List.{List}
 use Rattle.num.specs.Lists.{numbersIs}
-use Rattle.num.specs.Constants.{plusZero as zero, one}
 use Rattle.tree.specs.Kinds as spec
 use Rattle.tree.specs.declared.ColorMatrixKind.{ColorMatrixKind}
 use Rattle.tree.specs.declared.ColorMatrixKind.the-variants as matrix
@@ -12,15 +10,7 @@ use Rattle.tree.specs.declared.TransferFunction.the-variants as transfer
 use Rattle.tree.specs.declared.ComponentTransfer.{ComponentTransfer}
 use Rattle.tree.specs.declared.ConvolveMatrixData.{ConvolveMatrixData}
 use Rattle.tree.specs.declared.ConvolveMatrix.{ConvolveMatrix}
-
--- the matrix that changes nothing, a row of five for each of red, green, blue and alpha
-unfoldable pub identityMatrix : List Float
-identityMatrix =
-    one ∷ zero ∷ zero ∷ zero ∷ zero
-    ∷ zero ∷ one ∷ zero ∷ zero ∷ zero
-    ∷ zero ∷ zero ∷ one ∷ zero ∷ zero
-    ∷ zero ∷ zero ∷ zero ∷ one ∷ zero
-    ∷ []
+use Rattle.tree.specs.Kinds.{identityMatrix}
 
 abbrev pub colorMatrixKindIs : List ℕ → ColorMatrixKind → spec.ColorMatrixKind
 colorMatrixKindIs s (matrix.Matrix ns) = spec.Matrix (numbersIs s ns)

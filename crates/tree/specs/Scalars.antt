@@ -1,5 +1,5 @@
 -- Numbers, bools, options, colours, rectangles and lists of numbers, as the list has them. Definitions only.
-use Prim.Native.Nat.{ℕ, _+_, _*_, _-_}
+use Prim.Native.Nat.{ℕ, _-_}
 use mathlib.Core.List.{List, [], _∷_, _++_}
 use mathlib.Core.Bool.{Bool, true, false}
 use lib.ListN.{length}
@@ -20,10 +20,6 @@ boolByte true = 1
 unfoldable pub optionBytes : OptionF32 → List ℕ
 optionBytes None = 0 ∷ []
 optionBytes (Some x) = (1 ∷ []) ++ bytesF x
-
-abbrev pub optionSize : OptionF32 → ℕ
-optionSize None = 1
-optionSize (Some x) = 5
 
 -- an i32 in two's complement: -(n + 1) is written as 2 ^ 32 - (n + 1)
 abbrev pub twosComplement : ℤ → ℕ
@@ -49,6 +45,3 @@ runBytes (x ∷ xs) = bytesF x ++ runBytes xs
 -- "text and Vec with a u16 count"
 unfoldable pub numbersBytes : List Float → List ℕ
 numbersBytes xs = bytes16 (length xs) ++ runBytes xs
-
-abbrev pub numbersSize : List Float → ℕ
-numbersSize xs = 2 + 4 * length xs

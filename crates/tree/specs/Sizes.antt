@@ -1,7 +1,9 @@
--- How many bytes each value takes, where that differs from value to value: the lengths of the bytes in Fields.antt, as
+-- How many bytes each value takes, where that differs from value to value: the lengths of the bytes in Scalars.antt and Fields.antt, as
 -- proofs/Lengths.antt says of each. Definitions only.
-use Prim.Native.Nat.{ℕ, _+_}
-use Rattle.tree.specs.Scalars.{optionSize, numbersSize}
+use Prim.Native.Nat.{ℕ, _+_, _*_}
+use mathlib.Core.List.{List, [], _∷_}
+use lib.Ieee.{Float}
+use lib.ListN.{length}
 use Rattle.tree.specs.Kinds as kind
 use Rattle.tree.specs.Kinds.{Kind, ColorMatrixKind, Matrix, Saturate, HueRotate, LuminanceToAlpha, TransferFunction, Identity, Table, Discrete, Linear, Gamma, ComponentTransferFields, ConvolveMatrixData, ConvolveMatrixFields}
 use Rattle.tree.specs.declared.CompositeOperator.{CompositeOperator}
@@ -11,6 +13,15 @@ use Rattle.tree.specs.declared.LightSource.{LightSource}
 use Rattle.tree.specs.declared.LightSource.the-variants as light
 use Rattle.tree.specs.declared.DiffuseLighting.{DiffuseLighting}
 use Rattle.tree.specs.declared.SpecularLighting.{SpecularLighting}
+use Rattle.tree.specs.declared.OptionF32.{OptionF32}
+use Rattle.tree.specs.declared.OptionF32.the-variants.{None, Some}
+
+abbrev pub optionSize : OptionF32 → ℕ
+optionSize None = 1
+optionSize (Some x) = 5
+
+abbrev pub numbersSize : List Float → ℕ
+numbersSize xs = 2 + 4 * length xs
 
 abbrev pub colorMatrixKindSize : ColorMatrixKind → ℕ
 colorMatrixKindSize (Matrix xs) = 1 + numbersSize xs
@@ -79,3 +90,8 @@ fieldSize (kind.Offset a v) = 8
 fieldSize (kind.SpecularLighting a v) = specularLightingSize v
 fieldSize (kind.Tile a) = 0
 fieldSize (kind.Turbulence v) = 18
+
+-- the sum of some sizes
+unfoldable pub total : List ℕ → ℕ
+total [] = 0
+total (k ∷ ks) = k + total ks

@@ -20,7 +20,7 @@ use Rattle.svgtree.specs.declared.MaybeLength.the-variants as maybe-length
 use Rattle.svgtree.specs.declared.MaybeNumber.{MaybeNumber}
 use Rattle.svgtree.specs.declared.MaybeNumber.the-variants as maybe-number
 use Rattle.svgtree.specs.Values.{Value, absent, textValue, numberValue, numbersValue, lengthValue, colorValue, triesValue, Node}
-use Rattle.svgtree.specs.Readers.{lengthIn, lookup, fontSizeOf}
+use Rattle.svgtree.specs.Readers.{lengthIn, valueUnder, fontSizeOf}
 use Rattle.units.specs.declared.Units.{Units}
 use Rattle.units.specs.declared.Units.the-variants as units
 use Rattle.units.specs.declared.State.{State}
@@ -120,4 +120,4 @@ converted-single (maybe-length.Is l) aid u state size r f s = λ x e. let i : co
 converted-single maybe-length.No aid u state size r f s = λ x e. let z : _≡_ {A = ℕ} 0 1 = cc in absurd (zero-one z)
 
 pub try-single : (n : Node) (aid : ℕ) (u : Units) (state : State) → FiniteState state → AllSingle (tryConvertLength n aid u state)
-try-single n aid u state f = converted-single (lengthIn (lookup aid (n .attributes))) aid u state (fontSizeOf n) (readable (lookup aid (n .attributes))) f (orZero-finite (n .fontSize))
+try-single n aid u state f = converted-single (lengthIn (valueUnder aid (n .attributes))) aid u state (fontSizeOf n) (readable (valueUnder aid (n .attributes))) f (orZero-finite (n .fontSize))

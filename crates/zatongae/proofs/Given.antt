@@ -3,7 +3,7 @@ use Prim.Native.Nat.{ℕ}
 use mathlib.Core.Path.{_≡_, refl, sym, _∙_}
 use mathlib.Core.List.{List}
 use lib.ListN.{length}
-use Rattle.answer.specs.Outcomes.{Outcome, unlessRefused, numberOf}
+use Rattle.answer.specs.Outcomes.{Outcome, unlessRefused, outcomeNumber}
 use Rattle.answer.specs.declared.Answer.{Answer}
 use Rattle.answer.specs.declared.Checked.{Checked}
 use Rattle.answer.specs.declared.Checked.the-variants as checked
@@ -16,7 +16,7 @@ use Rattle.region.specs.Region.{filterRegionOf}
 use Rattle.child.specs.Child.{Child}
 use Rattle.zatongae.specs.Call.{inRegion, outcome, Converted}
 
-passed-at-zero : (c : Checked) (x : Outcome (List Child)) → numberOf (unlessRefused c x) ≡ 0 → c ≡ checked.Passed
+passed-at-zero : (c : Checked) (x : Outcome (List Child)) → outcomeNumber (unlessRefused c x) ≡ 0 → c ≡ checked.Passed
 passed-at-zero checked.Passed x e = refl
 passed-at-zero (checked.Refused why) x e = absurd (never-zero why e)
 

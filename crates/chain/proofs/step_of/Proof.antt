@@ -3,7 +3,8 @@ use native.Mathlib.Omega.{arith}
 use denote.Ref.{now}
 use mathlib.Core.Path.{_≡_, sym, ap, _∙_}
 use Rattle.svgtree.specs.Values.{Node}
-use Rattle.svgtree.specs.Parse.{nodeFrom, nodeAt, nodesAfter}
+use Rattle.svgtree.specs.Parse.{nodeFrom, nodeAt}
+use Rattle.svgtree.specs.Means.{nodesAfter}
 use Rattle.chain.specs.Chain.{regionStep}
 use Rattle.subregion.specs.Subregions.{regionOf}
 use Rattle.svgtree.specs.Readers.{childNodes}

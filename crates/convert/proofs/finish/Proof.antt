@@ -4,7 +4,7 @@ use native.Mathlib.Omega.{arith}
 use Prim.Native.Nat.{_≤_}
 use lib.ListN.{length}
 use Rattle.convert.specs.Children.{listOf}
-use Rattle.convert.specs.Plans.{childrenIs}
+use Rattle.list_records.specs.Tables.{childrenIs}
 use Rattle.convert.proofs.Lists.{enough, list-length, total-sizes, written, answers-none, answers-short, answers-list}
 use borrow.Author.Needs.{needs}
 use Rattle.convert.proofs.finish.Statement.{statement}

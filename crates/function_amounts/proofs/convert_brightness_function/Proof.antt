@@ -1,7 +1,7 @@
 -- The slope is the narrowed amount; the literal is 0. Assumes nothing.
 use mathlib.Core.Path.{ap}
 use lib.Ieee.{Float}
-use Rattle.num.specs.Narrowed.{doubleOf}
+use Rattle.num.specs.Means.{doubleOf}
 use Rattle.tree.specs.declared.TransferFunction.the-variants.{Linear}
 use Rattle.num.specs.Constants.{plusZero as zero}
 use borrow.Author.Needs.{needs}

@@ -1,7 +1,7 @@
 -- The slope is the narrowed amount; the code's operations on it are the definition's. Assumes nothing.
 use mathlib.Core.Path.{ap}
 use lib.Ieee.{Float, ofBits, round}
-use Rattle.num.specs.Narrowed.{doubleOf}
+use Rattle.num.specs.Means.{doubleOf}
 use Rattle.tree.specs.declared.TransferFunction.the-variants.{Linear}
 use Rattle.function_amounts.specs.Amounts.{contrastIntercept}
 use borrow.Author.Needs.{needs}

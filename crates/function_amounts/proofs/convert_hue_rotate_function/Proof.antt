@@ -1,5 +1,5 @@
 -- The narrowed number is the definition's. Assumes nothing.
-use Rattle.num.specs.Narrowed.{doubleOf}
+use Rattle.num.specs.Means.{doubleOf}
 use borrow.Author.Needs.{needs}
 use Rattle.function_amounts.proofs.convert_hue_rotate_function.Statement.{statement}
 use Rattle.function_amounts.proofs.convert_hue_rotate_function.Tie as tie

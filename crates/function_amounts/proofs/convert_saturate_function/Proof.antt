@@ -1,6 +1,6 @@
 -- What the two calls ensure, one after the other. Assumes nothing.
 use mathlib.Core.Path.{ap, _∙_}
-use Rattle.num.specs.Narrowed.{doubleOf}
+use Rattle.num.specs.Means.{doubleOf}
 use Rattle.function_amounts.specs.Amounts.{positiveOrZero}
 use borrow.Author.Needs.{needs}
 use Rattle.function_amounts.proofs.convert_saturate_function.Statement.{statement}

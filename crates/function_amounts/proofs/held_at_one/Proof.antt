@@ -1,6 +1,6 @@
 -- By cases on the comparison with 1; what is narrowed is 1 or the amount itself. Assumes nothing.
 use mathlib.Core.Path.{sym, _∙_}
-use Rattle.num.specs.Narrowed.{doubleOf}
+use Rattle.num.specs.Means.{doubleOf}
 use Rattle.function_amounts.specs.Amounts.{held}
 use borrow.Author.Needs.{needs}
 use Rattle.function_amounts.proofs.held_at_one.Statement.{statement}

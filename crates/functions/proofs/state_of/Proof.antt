@@ -1,5 +1,5 @@
 -- The two numbers are those of the record's head. Assumes nothing.
-use Rattle.num.specs.Narrowed.{singleOf}
+use Rattle.num.specs.Means.{singleOf}
 use borrow.Author.Needs.{needs}
 use Rattle.functions.proofs.state_of.Statement.{statement}
 use Rattle.functions.proofs.state_of.Tie as tie

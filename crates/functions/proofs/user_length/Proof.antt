@@ -1,5 +1,5 @@
 -- The length, the font size and the state are those of the record, so the conversion is the definition's. Assumes nothing.
-use Rattle.num.specs.Narrowed.{singleOf}
+use Rattle.num.specs.Means.{singleOf}
 use Rattle.svgtree.specs.Readers.{lengthIn}
 use Rattle.functions.specs.Functions.{userLength}
 use borrow.Author.Needs.{needs}

@@ -2,8 +2,9 @@
 use denote.Ref.{now}
 use mathlib.Core.Path.{_∙_, ap}
 use Rattle.list_read.specs.Layout.{layoutOf, exactly}
-use Rattle.list_layout.specs.After.{placeIs, rest, onward}
-use Rattle.list_read.specs.Records.{formOf, readInputs}
+use Rattle.list_layout.specs.After.{placeIs, restOf, onward}
+use Rattle.list_read.specs.Records.{readInputs}
+use Rattle.list_read.specs.Forms.{formOf}
 use Rattle.list_layout.proofs.Walking.{inputs-are, merge-long, merge-is}
 use borrow.Author.Needs.{needs}
 use Rattle.list_layout.proofs.after_merge_inputs.Statement.{statement}
@@ -22,7 +23,7 @@ returns-2 c =
     let n = c .before .before .before .u16-at in
     c .after-inputs .ensures
     ∙ inputs-are (a .form) (n .result) (placeIs (now (a .s)) (a .end) (c .before .after-bytes .result))
-    ∙ ap (onward (λ xs. rest (readInputs (formOf (a .form)) (exactly (n .result)) xs))) (c .before .after-bytes .ensures)
+    ∙ ap (onward (λ xs. restOf (readInputs (formOf (a .form)) (exactly (n .result)) xs))) (c .before .after-bytes .ensures)
     ∙ merge-is (a .form) (n .result) (placeIs (now (a .s)) (a .end) (a .p)) (n .ensures) (search needs)
 
 pub after-merge-inputs-spec : {M : Type 1} → statement M

@@ -7,7 +7,7 @@ use mathlib.Core.Path.{_≡_, sym, ap, _∙_}
 use Prim.Native.Nat.{_+_, _*_, _-_, _≤_}
 use lib.ListN.{length}
 use Rattle.bits.specs.Texts.{maybeTextIs}
-use Rattle.child.specs.Means.{inOf}
+use Rattle.child.specs.Child.{inOf}
 use Rattle.list_primitives.proofs.Merges.{mergeUpTo, mergeNext, merge-step, merge-none}
 use Rattle.list_primitives.proofs.Growing.{grown}
 use Rattle.list_primitives.proofs.run_size.Statement.{statement}

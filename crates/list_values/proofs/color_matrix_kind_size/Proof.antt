@@ -4,7 +4,8 @@ use denote.Ref.{now}
 use Rattle.tree.specs.declared.ColorMatrixKind.{ColorMatrixKind}
 use Rattle.tree.proofs.Lengths.{length-colorMatrixKind}
 use Rattle.tree.specs.Sizes.{colorMatrixKindSize}
-use Rattle.tree.specs.Means.{colorMatrixKindIs, identityMatrix}
+use Rattle.tree.specs.Means.{colorMatrixKindIs}
+use Rattle.tree.specs.Kinds.{identityMatrix}
 use Rattle.tree.proofs.Runs.{length-numbers}
 use Rattle.num.specs.Lists.{numbersIs}
 use native.Mathlib.Omega.{arith}

@@ -4,7 +4,8 @@ use mathlib.Core.Path.{ap}
 use Rattle.bits.proofs.Patches.{_then_, _counted_}
 use Rattle.tree.specs.Fields.{colorMatrixKindBytes}
 use Rattle.tree.specs.Sizes.{colorMatrixKindSize}
-use Rattle.tree.specs.Means.{colorMatrixKindIs, identityMatrix}
+use Rattle.tree.specs.Means.{colorMatrixKindIs}
+use Rattle.tree.specs.Kinds.{identityMatrix}
 use Rattle.tree.specs.declared.ColorMatrixKind.{ColorMatrixKind}
 use denote.Ref.{now}
 use borrow.Author.Needs.{needs}

@@ -2,7 +2,8 @@
 use native.Mathlib.Omega.{arith}
 use mathlib.Core.Path.{ap}
 use Rattle.bits.proofs.Patches.{_then_, _counted_}
-use Rattle.tree.specs.Scalars.{optionBytes, optionSize}
+use Rattle.tree.specs.Scalars.{optionBytes}
+use Rattle.tree.specs.Sizes.{optionSize}
 use borrow.Author.Needs.{needs}
 use Rattle.list_values.proofs.put_option.Statement.{statement}
 use Rattle.list_values.proofs.put_option.Tie as tie

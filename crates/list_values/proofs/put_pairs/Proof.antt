@@ -7,13 +7,14 @@ use lib.ListN.{length, take, getD}
 use denote.Ref.{now}
 use Rattle.bits.specs.Patch.{Put}
 use Rattle.bits.proofs.Patches.{_then_, _counted_, put-none}
-use Rattle.tree.specs.List.{pairs, total}
+use Rattle.tree.specs.List.{pairsBytes}
+use Rattle.tree.specs.Sizes.{total}
 use Rattle.tree.proofs.Pairs.{pairs-none, total-none, taken-more, total-more, total-room, pairs-snoc}
 use Rattle.list_values.proofs.put_pairs.Statement.{statement}
 use Rattle.list_values.proofs.put_pairs.Tie as tie
 
 abbrev Inv-loop : tie.InvT-loop
-Inv-loop sizes count base out₀ at o₀ j₀ start₀ out o j start = (j ≤ count) × (length out ≡ length out₀) × (start ≡ base + total (take j sizes)) × Put out₀ at (8 * j) (pairs base (take j sizes)) out o
+Inv-loop sizes count base out₀ at o₀ j₀ start₀ out o j start = (j ≤ count) × (length out ≡ length out₀) × (start ≡ base + total (take j sizes)) × Put out₀ at (8 * j) (pairsBytes base (take j sizes)) out o
 
 abbrev μ-loop : tie.MeasureT-loop
 μ-loop sizes count base out₀ at o₀ j₀ start₀ out o j start = count - j

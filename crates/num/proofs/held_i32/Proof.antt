@@ -1,7 +1,7 @@
 -- `num::held_i32` meets its contract: a size below 2 ^ 31 is an i32 with either sign; from there on the ends stand. Assumes nothing.
 use mathlib.Core.Path.{ap, sym, _∙_}
 use mathlib.Core.Bool.{Bool}
-use Rattle.num.specs.Whole.{heldSigned}
+use Rattle.num.specs.Means.{heldSigned}
 use Rattle.num.proofs.Ends.{plus-small, plus-large, minus-fits, minus-small, minus-large}
 use borrow.Author.Needs.{needs}
 use Rattle.num.proofs.held_i32.Statement.{statement}

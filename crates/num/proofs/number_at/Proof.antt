@@ -2,7 +2,7 @@
 use mathlib.Core.Path.{ap, sym, _∙_}
 use denote.Ref.{now}
 use Rattle.num.specs.Constants.{plusZero}
-use Rattle.num.specs.Narrowed.{singleOf}
+use Rattle.num.specs.Means.{singleOf}
 use Rattle.num.proofs.Lists.{numbers-at, numbers-past}
 use borrow.Author.Needs.{needs}
 use Rattle.num.proofs.number_at.Statement.{statement}

@@ -1,7 +1,7 @@
 -- Invariant: the test of all records is the test of those that are left, after the last tag of depth 0. Assumes nothing.
 use Prim.Native.Nat.{_-_, _≤_, ℕ}
 use mathlib.Core.Path.{_∙_, _≡_, ap, sym}
-use Rattle.sheet_layout.specs.Records.{recordsFrom}
+use Rattle.sheet_layout.specs.Records.{nodeRecordsFrom}
 use Rattle.sheet_layout.proofs.Following.{depths-end, depths-step}
 use Rattle.sheet_layout.specs.Layout.{depthsOk}
 use borrow.Author.Needs.{needs}
@@ -14,7 +14,7 @@ use Rattle.sheet_layout.proofs.depths_ok.Statement.{statement}
 use Rattle.sheet_layout.proofs.depths_ok.Tie as tie
 
 abbrev Inv-loop : tie.InvT-loop
-Inv-loop s n tagged₀ i₀ tagged i = (i ≤ n) × (n ≡ countOf s) × (depthsOk false (recordsFrom s 0 (countOf s)) ≡ depthsOk tagged (recordsFrom s i (n - i)))
+Inv-loop s n tagged₀ i₀ tagged i = (i ≤ n) × (n ≡ countOf s) × (depthsOk false (nodeRecordsFrom s 0 (countOf s)) ≡ depthsOk tagged (nodeRecordsFrom s i (n - i)))
 
 abbrev μ-loop : tie.MeasureT-loop
 μ-loop s n tagged₀ i₀ tagged i = n - i
@@ -22,7 +22,7 @@ abbrev μ-loop : tie.MeasureT-loop
 loop-holds : tie.Need-loop-holds Inv-loop μ-loop
 loop-holds c =
     let e : countOf (now (c .before .before .args .s)) ≡ c .node-count .result - 0 = omega arith in
-    (search needs, search needs, ap (λ (k : ℕ). depthsOk false (recordsFrom (now (c .before .before .args .s)) 0 k)) e)
+    (search needs, search needs, ap (λ (k : ℕ). depthsOk false (nodeRecordsFrom (now (c .before .before .args .s)) 0 k)) e)
 
 returns : tie.Need-returns Inv-loop μ-loop
 returns c =

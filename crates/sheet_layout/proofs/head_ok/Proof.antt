@@ -1,6 +1,6 @@
--- Each return is a rule of `headOk`, with those before it kept. Assumes nothing.
+-- Each return is a rule of `nodeHeadOk`, with those before it kept. Assumes nothing.
 use Prim.Native.Nat.{_<_, _≤_}
-use Rattle.sheet_layout.specs.Layout.{headOk}
+use Rattle.sheet_layout.specs.Layout.{nodeHeadOk}
 use mathlib.Core.Path.{_∙_, sym}
 use native.Mathlib.Omega.{arith}
 use lib.ListN.{getD}
@@ -11,13 +11,13 @@ use Rattle.sheet_layout.proofs.head_ok.Statement.{statement}
 use Rattle.sheet_layout.proofs.head_ok.Tie as tie
 
 returns : tie.Need-returns
-unfolding headOk
+unfolding nodeHeadOk
 returns c =
     let h : 1 < getD (now (c .before .before .before .args .s)) (c .before .before .before .args .at) 0 = omega arith in
     simp (lt-leb _ _ h)
 
 returns-2 : tie.Need-returns-2
-unfolding headOk
+unfolding nodeHeadOk
 returns-2 c =
     let at-byte2 = c .before .before in
     let at-start = at-byte2 .before .before .before .before in
@@ -26,7 +26,7 @@ returns-2 c =
     simp (le-leb _ _ h, sym t ∙ not-true _ (c .if2 .taken))
 
 returns-3 : tie.Need-returns-3
-unfolding headOk
+unfolding nodeHeadOk
 returns-3 c =
     let at-byte3 = c .before .before in
     let at-if2 = at-byte3 .before in
@@ -39,7 +39,7 @@ returns-3 c =
     simp (le-leb _ _ h, sym t ∙ not-false _ (at-if2 .if2 .left), sym k ∙ not-true _ (c .if3 .taken))
 
 returns-4 : tie.Need-returns-4
-unfolding headOk
+unfolding nodeHeadOk
 returns-4 c =
     let at-count-ok = c .before .before in
     let at-byte3 = at-count-ok .before in

@@ -1,6 +1,6 @@
 -- The node is read at its offset, and its attributes begin behind its head. Assumes nothing.
-use Rattle.sheet_layout.specs.Records.{recordAt}
-use Rattle.sheet_layout.specs.Layout.{recordOk}
+use Rattle.sheet_layout.specs.Records.{nodeRecordAt}
+use Rattle.sheet_layout.specs.Layout.{nodeRecordOk}
 use mathlib.Core.Path.{_∙_, sym}
 use borrow.Author.Tests.{not-false, not-true}
 use borrow.Author.Needs.{needs}
@@ -8,13 +8,13 @@ use Rattle.sheet_layout.proofs.record_ok.Statement.{statement}
 use Rattle.sheet_layout.proofs.record_ok.Tie as tie
 
 returns : tie.Need-returns
-unfolding recordOk recordAt
+unfolding nodeRecordOk nodeRecordAt
 returns c =
     let h = rw (c .before .before .wide16 .ensures .0, c .before .before .before .node-offset .ensures) at (c .before .head-ok .ensures) in
     simp (sym h ∙ not-true _ (c .if1 .taken))
 
 returns-2 : tie.Need-returns-2
-unfolding recordOk recordAt
+unfolding nodeRecordOk nodeRecordAt
 returns-2 c =
     let passed = c .before .before .before .before .before in
     let h = rw (passed .before .before .wide16 .ensures .0, passed .before .before .before .node-offset .ensures) at (passed .before .head-ok .ensures) in

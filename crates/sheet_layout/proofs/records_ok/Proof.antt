@@ -1,9 +1,9 @@
 -- Invariant: the test of all records is the test of those that are left. Assumes nothing.
 use Prim.Native.Nat.{_-_, _≤_, ℕ}
 use mathlib.Core.Path.{_∙_, _≡_, ap, sym}
-use Rattle.sheet_layout.specs.Layout.{recordOk}
+use Rattle.sheet_layout.specs.Layout.{nodeRecordOk}
 use Rattle.sheet_layout.proofs.Following.{records-ok-end, records-ok-step}
-use Rattle.sheet_layout.specs.Records.{recordsFrom}
+use Rattle.sheet_layout.specs.Records.{nodeRecordsFrom}
 use Rattle.field_tests.specs.Tests.{all}
 use borrow.Author.Needs.{needs}
 use native.Mathlib.Omega.{arith}
@@ -14,7 +14,7 @@ use Rattle.sheet_layout.proofs.records_ok.Statement.{statement}
 use Rattle.sheet_layout.proofs.records_ok.Tie as tie
 
 abbrev Inv-loop : tie.InvT-loop
-Inv-loop s n i₀ i = (i ≤ n) × (n ≡ countOf s) × (all recordOk (recordsFrom s 0 (countOf s)) ≡ all recordOk (recordsFrom s i (n - i)))
+Inv-loop s n i₀ i = (i ≤ n) × (n ≡ countOf s) × (all nodeRecordOk (nodeRecordsFrom s 0 (countOf s)) ≡ all nodeRecordOk (nodeRecordsFrom s i (n - i)))
 
 abbrev μ-loop : tie.MeasureT-loop
 μ-loop s n i₀ i = n - i
@@ -22,7 +22,7 @@ abbrev μ-loop : tie.MeasureT-loop
 loop-holds : tie.Need-loop-holds Inv-loop μ-loop
 loop-holds c =
     let e : countOf (now (c .before .before .args .s)) ≡ c .node-count .result - 0 = omega arith in
-    (search needs, search needs, ap (λ (k : ℕ). all recordOk (recordsFrom (now (c .before .before .args .s)) 0 k)) e)
+    (search needs, search needs, ap (λ (k : ℕ). all nodeRecordOk (nodeRecordsFrom (now (c .before .before .args .s)) 0 k)) e)
 
 returns : tie.Need-returns Inv-loop μ-loop
 returns c =

@@ -2,7 +2,7 @@
 use Prim.Native.Nat.{_*_, _+_, _-_, _≤_, ℕ}
 use mathlib.Core.Path.{_∙_, _≡_, ap₂, sym}
 use Rattle.svgtree.specs.Parse.{countOf, pairPlace, pairLength, pairOffset}
-use Rattle.sheet_layout.specs.Records.{recordsFrom}
+use Rattle.sheet_layout.specs.Records.{nodeRecordsFrom}
 use Rattle.sheet_layout.specs.Layout.{touch}
 use Rattle.sheet_layout.proofs.Following.{touch-end, touch-step}
 use borrow.Author.Needs.{needs}
@@ -14,7 +14,7 @@ use Rattle.sheet_layout.proofs.records_touch.Statement.{statement}
 use Rattle.sheet_layout.proofs.records_touch.Tie as tie
 
 abbrev Inv-loop : tie.InvT-loop
-Inv-loop s n at₀ i₀ at i = (i ≤ n) × (n ≡ countOf s) × (at ≤ 600000 + i * 4294967296) × (touch (pairPlace (countOf s)) (length s) (recordsFrom s 0 (countOf s)) ≡ touch at (length s) (recordsFrom s i (n - i)))
+Inv-loop s n at₀ i₀ at i = (i ≤ n) × (n ≡ countOf s) × (at ≤ 600000 + i * 4294967296) × (touch (pairPlace (countOf s)) (length s) (nodeRecordsFrom s 0 (countOf s)) ≡ touch at (length s) (nodeRecordsFrom s i (n - i)))
 
 abbrev μ-loop : tie.MeasureT-loop
 μ-loop s n at₀ i₀ at i = n - i
@@ -24,7 +24,7 @@ loop-holds c =
     let s = now (c .before .before .before .args .s) in
     let e : countOf s ≡ c .before .node-count .result - 0 = omega arith in
     let f : pairPlace (countOf s) ≡ c .pair-place .result = omega arith in
-    (search needs, search needs, search needs, ap₂ (λ (a k : ℕ). touch a (length s) (recordsFrom s 0 k)) f e)
+    (search needs, search needs, search needs, ap₂ (λ (a k : ℕ). touch a (length s) (nodeRecordsFrom s 0 k)) f e)
 
 returns : tie.Need-returns Inv-loop μ-loop
 returns c =

@@ -13,7 +13,8 @@ use Rattle.region.specs.declared.Frame.{Frame}
 use Rattle.subregion.specs.declared.Defaults.{Defaults}
 use Rattle.subregion.specs.declared.Subregion.{Subregion}
 use Rattle.subregion.specs.declared.Subregion.the-variants as subregion
-use Rattle.subregion.specs.Subregions.{childRect, orEnds, userSpaceRegion, placedChild, bboxRegion, defaultsIn, byUnits, regionOf}
+use Rattle.subregion.specs.Subregions.{childRect, orEnds, userSpaceRegion, placedChild, bboxRegion, byUnits, regionOf}
+use Rattle.subregion.specs.Means.{defaultsIn}
 use borrow.Author.Needs.{needs}
 use Rattle.subregion.proofs.resolve_primitive_region.Statement.{statement}
 use Rattle.subregion.proofs.resolve_primitive_region.Tie as tie

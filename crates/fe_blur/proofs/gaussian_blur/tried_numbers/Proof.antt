@@ -1,5 +1,5 @@
 -- By cases on the third, the first and the second try, as the definition goes. Assumes nothing.
-use Rattle.num.specs.Narrowed.{doubleOf}
+use Rattle.num.specs.Means.{doubleOf}
 use borrow.Author.Needs.{needs}
 use Rattle.fe_blur.proofs.gaussian_blur.tried_numbers.Statement.{statement}
 use Rattle.fe_blur.proofs.gaussian_blur.tried_numbers.Tie as tie

@@ -2,7 +2,7 @@
 use mathlib.Core.Path.{ap, _∙_}
 use lib.IntN.{ℤ}
 use Rattle.tree.proofs.Signed.{back}
-use Rattle.fe_kernel.specs.Target.{inside, targetOf}
+use Rattle.fe_kernel.specs.Target.{targetInside, targetOf}
 use Rattle.fe_kernel.proofs.Signs.{cut-back}
 use borrow.Author.Needs.{needs}
 use Rattle.fe_kernel.proofs.target.parse_target.Statement.{statement}
@@ -10,7 +10,7 @@ use Rattle.fe_kernel.proofs.target.parse_target.Tie as tie
 
 returns : tie.Need-returns
 unfolding targetOf
-returns c = rw (c .before .before .before .target .given .1) (c .target-inside .ensures ∙ ap (λ (z : ℤ). inside z (c .before .before .before .before .before .args .order)) (ap back (c .before .f32-to-i32 .ensures) ∙ cut-back _))
+returns c = rw (c .before .before .before .target .given .1) (c .target-inside .ensures ∙ ap (λ (z : ℤ). targetInside z (c .before .before .before .before .before .args .order)) (ap back (c .before .f32-to-i32 .ensures) ∙ cut-back _))
 
 returns-2 : tie.Need-returns-2
 unfolding targetOf

@@ -3,7 +3,7 @@
 use mathlib.Core.Path.{refl, sym}
 use lib.ListN.{List·getD-eq-default}
 use borrow.Author.Needs.{needs}
-use Rattle.names.specs.Ids.{elementsInUse}
+use Rattle.names.specs.InUse.{elementsInUse}
 use Rattle.names.proofs.eid.in_use.Statement.{statement}
 use Rattle.names.proofs.eid.in_use.Tie as tie
 

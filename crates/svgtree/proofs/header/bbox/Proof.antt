@@ -1,7 +1,7 @@
 -- The four numbers of the header, each read as `single` reads it, make the rectangle where the mark says present. Assumes nothing.
 use mathlib.Core.Path.{_∙_, sym}
 use Rattle.svgtree.specs.Parse.{headerOf}
-use Rattle.num.specs.Narrowed.{singleOf}
+use Rattle.num.specs.Means.{singleOf}
 use borrow.Author.Tests.{eq-eqb, ne-eqb}
 use borrow.Author.Needs.{needs}
 use Rattle.svgtree.proofs.header.bbox.Statement.{statement}

@@ -1,6 +1,6 @@
 -- The node's font size. Assumes nothing.
 use Rattle.svgtree.specs.Parse.{nodeFrom}
-use Rattle.num.specs.Narrowed.{singleOf}
+use Rattle.num.specs.Means.{singleOf}
 use borrow.Author.Needs.{needs}
 use Rattle.svgtree.proofs.nodes.font_size_at.Statement.{statement}
 use Rattle.svgtree.proofs.nodes.font_size_at.Tie as tie

@@ -6,13 +6,13 @@ use borrow.Author.Needs.{needs}
 use Rattle.names.specs.Ids.{AId·X, AId·Y, AId·Width, AId·Height}
 use Rattle.svgtree.specs.declared.MaybeLength.{MaybeLength}
 use Rattle.svgtree.specs.Values.{Value, Attribute}
-use Rattle.svgtree.specs.Readers.{lookup, lengthIn}
+use Rattle.svgtree.specs.Readers.{valueUnder, lengthIn}
 use Rattle.svgtree.proofs.Lookup.{attributes-of}
 use Rattle.svgtree.proofs.sides.sides_of.Statement.{statement}
 use Rattle.svgtree.proofs.sides.sides_of.Tie as tie
 
-side : (id : ℕ) {v : Value} {r : MaybeLength} {attributes whole : List Attribute} → attributes ≡ whole → v ≡ lookup id attributes → r ≡ lengthIn v → r ≡ lengthIn (lookup id whole)
-side id same found length = length ∙ ap lengthIn (found ∙ ap (lookup id) same)
+side : (id : ℕ) {v : Value} {r : MaybeLength} {attributes whole : List Attribute} → attributes ≡ whole → v ≡ valueUnder id attributes → r ≡ lengthIn v → r ≡ lengthIn (valueUnder id whole)
+side id same found length = length ∙ ap lengthIn (found ∙ ap (valueUnder id) same)
 
 returns : tie.Need-returns
 returns c =

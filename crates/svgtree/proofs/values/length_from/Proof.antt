@@ -1,5 +1,5 @@
 -- The unit is the first byte, and the number the f64 behind it, narrowed. Assumes nothing.
-use Rattle.num.specs.Narrowed.{doubleOf}
+use Rattle.num.specs.Means.{doubleOf}
 use Rattle.svgtree.specs.Readers.{lengthIn}
 use borrow.Author.Needs.{needs}
 use Rattle.svgtree.proofs.values.length_from.Statement.{statement}
