@@ -7,15 +7,16 @@ use lib.Dec.{T, eqb}
 use lib.Ieee.{Float, lt, le}
 use lib.Ieee.Scale.{finite}
 use lib.Ieee.Fits.{and-l, and-r}
+use lib.Ieee.Bits.{is-true}
 use Rattle.num.specs.Narrowed.{narrowed, orZero}
 use Rattle.num.specs.Constants.{plusZero}
 use Rattle.num.specs.Numbers.{Each}
 use Rattle.num.specs.Sign.{positive}
-use Rattle.num.proofs.Finite.{orZero-is}
 use Rattle.geom.specs.Geometry.{zeroF32, largest, ofSize, validLength, viewBoxLength}
 use Rattle.names.specs.Ids.{AId·FloodOpacity}
 use Rattle.svgtree.specs.Values.{Value, absent, textValue, numberValue, numbersValue, lengthValue, colorValue, triesValue, Attribute, Node, Bounds, Header, Sheet}
 use Rattle.field_tests.specs.Tests.{all, doubleOk}
+use Rattle.field_tests.proofs.Finiteness.{read-finite}
 use Rattle.sheet_check.specs.Numbers.{tryNumberOk, valueNumbersOk, opacityOk, attributeNumbersOk, nodeNumbersOk, exists, boundsOk, headerLengthsNumbersOk, headerNumbersOk, numbersOk}
 use Rattle.sheet_accepted.specs.Given.{GivenSingle, GivenDouble, GivenTry, GivenValue, GivenAttribute, GivenNode, GivenBox, GivenHeader, GivenNumbers}
 
@@ -27,20 +28,23 @@ each-passed p P f (x ∷ xs) h = (f x (and-l (p x) (all p xs) h), each-passed p 
 
 -- ---- a number
 
+finite-given : (x : Float) → T (finite x) → GivenSingle x
+finite-given x h = read-finite x (is-true (finite x) h)
+
 double-given : (x : Float) → T (doubleOk x) → GivenDouble x
 unfolding doubleOk
-double-given x h = (and-l (finite x) (finite (narrowed x)) h, orZero-is (narrowed x) (and-r (finite x) (finite (narrowed x)) h))
+double-given x h = (and-l (finite x) (finite (narrowed x)) h, finite-given (narrowed x) (and-r (finite x) (finite (narrowed x)) h))
 
 positive-given : (x : Float) → T (positive x) → GivenSingle x
-positive-given x h = orZero-is x (and-l (finite x) (le plusZero x) h)
+positive-given x h = finite-given x (and-l (finite x) (le plusZero x) h)
 
 valid-given : (x : Float) → T (validLength x) → GivenSingle x
 unfolding validLength
-valid-given x h = orZero-is x (and-r (lt zeroF32 x) (finite x) h)
+valid-given x h = finite-given x (and-r (lt zeroF32 x) (finite x) h)
 
 view-box-given : (x : Float) → T (viewBoxLength x) → GivenSingle x
 unfolding viewBoxLength
-view-box-given x h = orZero-is x (and-r (lt zeroF32 x) (finite x) (and-l (lt zeroF32 x && finite x) (lt x largest) h))
+view-box-given x h = finite-given x (and-r (lt zeroF32 x) (finite x) (and-l (lt zeroF32 x && finite x) (lt x largest) h))
 
 -- ---- a value, and a node
 
@@ -52,7 +56,7 @@ singles-given : (xs : List Float) → T (all finite xs) → map orZero xs ≡ xs
 unfolding all
 singles-given [] h = refl
 singles-given (x ∷ xs) h =
-    let first : orZero x ≡ x = orZero-is x (and-l (finite x) (all finite xs) h) in
+    let first : orZero x ≡ x = finite-given x (and-l (finite x) (all finite xs) h) in
     let rest : map orZero xs ≡ xs = singles-given xs (and-r (finite x) (all finite xs) h) in
     cc
 
@@ -60,7 +64,7 @@ value-given : (v : Value) → T (valueNumbersOk v) → GivenValue v
 unfolding valueNumbersOk
 value-given absent h = tt
 value-given (textValue t) h = tt
-value-given (numberValue x) h = orZero-is x h
+value-given (numberValue x) h = finite-given x h
 value-given (numbersValue xs) h = singles-given xs h
 value-given (lengthValue u x) h = double-given x h
 value-given (colorValue k) h = tt
@@ -96,7 +100,7 @@ box-given (some b) h =
     let four = and-l (x && y && w && k) (exists (ofSize (b .x) (b .y) (b .width) (b .height))) h in
     let three = and-l (x && y && w) k four in
     let two = and-l (x && y) w three in
-    (orZero-is (b .x) (and-l x y two), orZero-is (b .y) (and-r x y two), orZero-is (b .width) (and-r (x && y) w three), orZero-is (b .height) (and-r (x && y && w) k four))
+    (finite-given (b .x) (and-l x y two), finite-given (b .y) (and-r x y two), finite-given (b .width) (and-r (x && y) w three), finite-given (b .height) (and-r (x && y && w) k four))
 
 header-given : (h : Header) → T (headerNumbersOk h) → GivenHeader h
 unfolding headerNumbersOk headerLengthsNumbersOk
