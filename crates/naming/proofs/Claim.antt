@@ -132,7 +132,9 @@ newest-after st none g t = rw (names-snoc t ls (Made k), last-snoc (isOwn t) ls 
 directly-found : (ls : List Label) → lookup (map nameOf ls) (previous (map nameOf ls)) ≡ some (directly ls)
 unfolding lookup
 directly-found [] = refl
-directly-found (l ∷ ls) = rw (last-found (nameOf l) (map nameOf ls), length-map ls nameOf)
+directly-found (l ∷ ls) =
+    let last : lastWith (same (lastOf (nameOf l) (map nameOf ls))) (map nameOf (l ∷ ls)) ≡ some (length ls) = rw (last-found (nameOf l) (map nameOf ls), length-map ls nameOf) in
+    ap (Option·map nth) last
 
 one-input : (ls : List Label) → Newest ls → (x : Option Name) → lookup (map nameOf ls) (resolve (map nameOf ls) x) ≡ some (rule ls x)
 unfolding resolve rule lookup
