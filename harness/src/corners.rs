@@ -506,6 +506,22 @@ impl Corners {
         }
     }
 
+    /// Octaves that end in a half and the f32 on either side: small ones, and those next to powers of two up to 2^23, which is whole; then what lies
+    /// around 2^32. With either sign. Fewer than two hundred, so all of them are stored.
+    fn octaves(&mut self) {
+        let small = (0..9).map(|n| n as f32 + 0.5);
+        let powers =
+            [4, 6, 8, 10, 12, 16, 20, 21, 22, 23].into_iter().flat_map(|k| [-0.5, 0.5].map(|h| (1 << k) as f32 + h));
+        let halves = small.chain(powers).map(f32::to_bits).flat_map(|b| [b - 1, b, b + 1]);
+        let others = [0, 1, 0x007f_ffff, 0x0080_0000, 0x4f7f_ffff, 0x4f80_0000, 0x4f80_0001, 0x7f7f_ffff];
+        for b in halves.chain(others) {
+            for sign in [0, 0x8000_0000] {
+                let n = number_attr(AId::NumOctaves, f32::from_bits(sign | b));
+                self.add("octaves", Sheet::plain(vec![with(fe(EId::FeTurbulence), [n])]));
+            }
+        }
+    }
+
     /// Cases P1 to P11 and the example of the paper.
     fn cases(&mut self) {
         let tile = |attrs: Vec<Attr>| with(fe(EId::FeTile), attrs);
@@ -564,5 +580,6 @@ pub fn corners() -> Vec<Corner> {
     c.words();
     c.naming();
     c.kernels();
+    c.octaves();
     c.0
 }

@@ -7,6 +7,7 @@ mod generate;
 mod library;
 mod lists;
 mod model;
+mod numbers;
 mod reader;
 mod real;
 mod records;
@@ -37,6 +38,8 @@ harness store [FOLDER] [--seed N]
     writes stored answers: data/cases and stdout of the program crate in FOLDER (crates/replay).
 harness lists [FOLDER] [--seed N]
     writes stored lists and which are in the layout: stdin and stdout of the program crate in FOLDER (crates/read).
+harness numbers [FOLDER]
+    works out again the answers in stdout of the program crate in FOLDER (crates/worked_numbers); functions and arguments stay.
 harness speed
     times the library and the crate's conversion, and prints the first two tables of docs/SPEED.md.
 harness real FOLDER [--trace]
@@ -387,7 +390,7 @@ fn one(o: &Options) -> Option<ExitCode> {
         Ok(list) => println!("the crate: 0, {} bytes\n{}", list.len(), hex(list)),
         Err(n) => println!("the crate: {}", n),
     }
-    if let Some(n) = v.named {
+    for n in &v.named {
         println!("(named difference: {:?})", n);
     }
     let length = match o.words.get(2) {
@@ -412,6 +415,7 @@ fn run() -> Option<ExitCode> {
         "compare" => compare(&o),
         "store" => store::store(o.words.get(1).map_or("crates/replay", |s| s), o.seed),
         "lists" => lists::lists(o.words.get(1).map_or("crates/read", |s| s), o.seed),
+        "numbers" => numbers::numbers(o.words.get(1).map_or("crates/worked_numbers", |s| s)),
         "speed" => Some(speed::speed()),
         "real" => real::real(o.words.get(1)?, o.trace),
         "hex" => one(&o),

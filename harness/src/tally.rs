@@ -68,6 +68,7 @@ pub struct Tally {
     pub order_product: u64,
     pub displacement_sum: u64,
     pub dy_percent: u64,
+    pub octaves_half: u64,
     pub records: u64,
     pub record_refusals: [u64; 10],
     pub record_kinds: [u64; 17],
@@ -209,11 +210,13 @@ impl Tally {
     }
 
     fn named(&mut self, v: &Verdict) {
-        match v.named {
-            Some(Named::OrderProduct) => self.order_product += 1,
-            Some(Named::DisplacementSum) => self.displacement_sum += 1,
-            Some(Named::DyPercent) => self.dy_percent += 1,
-            None => {}
+        for n in &v.named {
+            match n {
+                Named::OrderProduct => self.order_product += 1,
+                Named::DisplacementSum => self.displacement_sum += 1,
+                Named::DyPercent => self.dy_percent += 1,
+                Named::OctavesHalf => self.octaves_half += 1,
+            }
         }
     }
 
@@ -350,12 +353,13 @@ impl Tally {
             grouped(self.narrowed_nan),
             skipped(parts.narrow)
         );
-        println!("where the crate's own answer is another, as docs/DIFFERENCES.md names it:");
+        println!("where docs/DIFFERENCES.md names an answer in the place of the crate's:");
         println!(
-            "  order product wraps {}, displacement sum {}, percent in a function's dy {}",
+            "  order product wraps {}, displacement sum {}, percent in a function's dy {}, octaves that end in a half {}",
             grouped(self.order_product),
             grouped(self.displacement_sum),
-            grouped(self.dy_percent)
+            grouped(self.dy_percent),
+            grouped(self.octaves_half)
         );
         println!("differences that docs/DIFFERENCES.md doesn't name: {}", self.differences);
     }

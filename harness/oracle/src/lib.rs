@@ -5,6 +5,7 @@
 
 mod encode;
 mod names_list;
+pub mod octaves;
 mod parser;
 pub mod run;
 mod sheet;

@@ -8,6 +8,7 @@ use svgtypes::{Angle, Color, FilterValue, Length, LengthUnit};
 
 use crate::encode;
 use crate::filter::{Filter, Kind, Primitive};
+use crate::octaves::{ends_in_a_half, octaves};
 use crate::parser::converter::{Cache, State};
 use crate::parser::filter::{convert, create_dummy_primitive};
 use crate::parser::svgtree::{AId, Document, EId};
@@ -240,16 +241,62 @@ pub enum Named {
     DisplacementSum,
     /// A percent in a function's dy: the crate takes it from the view box height, which a record lacks.
     DyPercent,
+    /// numOctaves ends in exactly a half: the crate rounds it away from zero, and the even neighbour is asked for.
+    OctavesHalf,
 }
 
-/// The list (or Kind) at its full length, or the number of the refusal; and where that is not what the crate itself gives.
+/// The list (or Kind) at its full length, or the number of the refusal; and where that is not the crate's own answer, each place once.
 pub struct Verdict {
     pub answer: Result<Vec<u8>, u8>,
-    pub named: Option<Named>,
+    pub named: Vec<Named>,
 }
 
 fn plain(answer: Result<Vec<u8>, u8>) -> Verdict {
-    Verdict { answer, named: None }
+    Verdict { answer, named: Vec::new() }
+}
+
+/// Kernels whose orders' product is not their count: the flood in their place.
+fn exact_orders(made: &mut [Primitive]) -> bool {
+    let mut found = false;
+    for p in made {
+        if let Kind::ConvolveMatrix(ref c) = p.kind {
+            let m = &c.matrix;
+            if u64::from(m.columns) * u64::from(m.rows) != m.data.len() as u64 {
+                p.kind = create_dummy_primitive();
+                found = true;
+            }
+        }
+    }
+    found
+}
+
+/// numOctaves as it is read; 1 where it is absent or cannot be read.
+fn num_octaves(n: &Node) -> f32 {
+    let number = n.attrs.iter().find_map(|(id, v)| match v {
+        Value::Number(x) if *id == AId::NumOctaves => Some(*x),
+        _ => None,
+    });
+    number.unwrap_or(1.0)
+}
+
+/// Octaves that end in exactly a half: those of `octaves` in the place of the crate's. On every other number the two must agree.
+fn even_octaves(s: &Sheet, made: &mut [Primitive]) -> bool {
+    let children = s.nodes.iter().filter(|n| n.depth == 0);
+    let given = children.filter(|n| n.tag == Some(EId::FeTurbulence)).map(num_octaves);
+    let noises = made.iter_mut().filter_map(|p| match p.kind {
+        Kind::Turbulence(ref mut t) => Some(t),
+        _ => None,
+    });
+    let mut found = false;
+    // each feTurbulence that counts makes one primitive, in their order
+    for (t, x) in noises.zip(given) {
+        if ends_in_a_half(x) {
+            t.num_octaves = octaves(x);
+            found = true;
+        }
+        assert_eq!(t.num_octaves, octaves(x), "octaves of {:08x}", x.to_bits());
+    }
+    found
 }
 
 pub fn sheet(b: &[u8]) -> Verdict {
@@ -271,17 +318,14 @@ pub fn sheet(b: &[u8]) -> Verdict {
         Outcome::Made(made) => made,
     };
     if bad_displacement(&s, &made) {
-        return Verdict { answer: Err(6), named: Some(Named::DisplacementSum) };
+        return Verdict { answer: Err(6), named: vec![Named::DisplacementSum] };
     }
-    let mut named = None;
-    for p in &mut made {
-        if let Kind::ConvolveMatrix(ref c) = p.kind {
-            let m = &c.matrix;
-            if u64::from(m.columns) * u64::from(m.rows) != m.data.len() as u64 {
-                p.kind = create_dummy_primitive();
-                named = Some(Named::OrderProduct);
-            }
-        }
+    let mut named = Vec::new();
+    if exact_orders(&mut made) {
+        named.push(Named::OrderProduct);
+    }
+    if even_octaves(&s, &mut made) {
+        named.push(Named::OctavesHalf);
     }
     let mut list = Vec::new();
     encode::list(&mut list, &made);
@@ -320,7 +364,7 @@ pub fn function(b: &[u8]) -> Verdict {
     let answer = function_answer(b);
     // The record has passed the layout where there is an answer.
     let percent = answer.is_ok() && b[12] == 9 && b[31] == 9;
-    Verdict { answer, named: percent.then_some(Named::DyPercent) }
+    Verdict { answer, named: percent.then_some(Named::DyPercent).into_iter().collect() }
 }
 
 fn function_answer(b: &[u8]) -> Result<Vec<u8>, u8> {
