@@ -37,8 +37,8 @@ frequencyOf (some xs) = frequencyFrom (pairIn xs)
 abbrev pub turbulenceKindOf : Node → TurbulenceKind
 turbulenceKindOf n = keyword ("fractalNoise" means kind.FractalNoise ∷ []) kind.Turbulence (textOf n AId·Type)
 
--- "Octaves: half away from zero, then to u32, held at its ends. `seed` is cut toward zero to i32 and held at its ends". The document: `numOctaves`
--- is a whole number, and a negative one is an error (not certain).
+-- Octaves: to the nearest whole number, a half to the even one (document 02, [1]), held at the ends of u32; a set sign gives 0. The crate rounds a half away
+-- from zero. The document: `numOctaves` is a whole number, and a negative one is an error (not certain). "`seed` is cut toward zero to i32 and held at its ends".
 abbrev pub turbulenceFields : Node → Pair → Turbulence
 turbulenceFields n p =
     record {

@@ -15,8 +15,8 @@ use lib.Ieee.Bits.{is-false}
 use lib.Ieee.Exact.{HasValue}
 use Rattle.num.specs.Numbers.{IsNumber}
 use Rattle.num.proofs.Patterns.{fields-low, fields-normal, ofBits-fields}
-use Rattle.num.specs.Whole.{halfUp, octavesOf}
-use Rattle.num.specs.Means.{cutSize, awaySize, heldSigned}
+use Rattle.num.specs.Whole.{halfEven, octavesOf}
+use Rattle.num.specs.Means.{wholeBy, cutSize, nearestSize, heldSigned}
 use Rattle.num.specs.Sign.{signNegative}
 
 -- x is finite and has the sign s
@@ -51,7 +51,7 @@ bits-nan f b e d = by-fields f b e ∙ ap (λ (z : Bool). cond z (inf (leb (top 
 
 -- ---- to i32
 to-signed : (x : Float) (s : Bool) → Sign x s → toSigned 31 x ≡ heldSigned s (cutSize x)
-unfolding toSigned cutSize heldSigned
+unfolding toSigned wholeBy heldSigned
 to-signed nan s h = absurd h
 to-signed (inf t) s h = absurd h
 to-signed (fin t m e) s h = ap (λ (b : Bool). cond b (negℤ (pos (min (m * up e / down e) 2147483648))) (pos (min (m * up e / down e) 2147483647))) h
@@ -143,11 +143,11 @@ module _ (b : ℕ) (F : b % 2147483648 < 2139095040) where
   signed = subst (λ (v : Float). Sign v (leb 2147483648 b)) (sym is) (fields-sign binary32 (leb 2147483648 b) (b / 8388608 % 256) (b % 8388608) (omega arith))
 
 -- ---- to u32
-to-octaves : (x : Float) (s : Bool) → Sign x s → octavesOf x ≡ cond s 0 (min (awaySize x) 4294967295)
-unfolding octavesOf awaySize
+to-octaves : (x : Float) (s : Bool) → Sign x s → octavesOf x ≡ cond s 0 (min (nearestSize x) 4294967295)
+unfolding octavesOf wholeBy
 to-octaves nan s h = absurd h
 to-octaves (inf t) s h = absurd h
-to-octaves (fin t m e) s h = ap (λ (b : Bool). cond b 0 (min (halfUp (m * up e) (down e)) 4294967295)) h
+to-octaves (fin t m e) s h = ap (λ (b : Bool). cond b 0 (min (halfEven (m * up e) (down e)) 4294967295)) h
 
 odd-octaves : (d q k l : ℕ) → octavesOf (odd d true q k l) ≡ 0
 unfolding odd octavesOf
@@ -170,13 +170,13 @@ octaves-minus b h =
     let t = b % 8388608 in
     sym (ap octavesOf (ofBits-fields binary32 b ∙ ap (λ (s : Bool). ofFields binary32 s x t) (le-leb 2147483648 b h)) ∙ fields-octaves x t)
 
-pub octaves-plus : (b x t w r : ℕ) → x ≡ b / 8388608 % 256 → t ≡ b % 8388608 → b < 2139095040 → ((s : Bool) → w ≡ min (awaySize (ofFields binary32 s x t)) 8589934592) → r ≡ min w 4294967295 → r ≡ octavesOf (ofBits binary32 b)
+pub octaves-plus : (b x t w r : ℕ) → x ≡ b / 8388608 % 256 → t ≡ b % 8388608 → b < 2139095040 → ((s : Bool) → w ≡ min (nearestSize (ofFields binary32 s x t)) 8589934592) → r ≡ min w 4294967295 → r ≡ octavesOf (ofBits binary32 b)
 octaves-plus b x t w r p q h k e =
     let s = leb 2147483648 b in
     let F : b % 2147483648 < 2139095040 = omega arith in
     let v : ofFields binary32 s x t ≡ ofBits binary32 b = ap (λ (z : ℕ). ofFields binary32 s z t) p ∙ ap (λ (z : ℕ). ofFields binary32 s (b / 8388608 % 256) z) q ∙ sym (is b F) in
-    same w r (awaySize (ofBits binary32 b)) (k s ∙ ap (λ (z : Float). min (awaySize z) 8589934592) v) e
-    ∙ sym (to-octaves (ofBits binary32 b) s (signed b F) ∙ ap (λ (z : Bool). cond z 0 (min (awaySize (ofBits binary32 b)) 4294967295)) (lt-leb 2147483648 b (omega arith)))
+    same w r (nearestSize (ofBits binary32 b)) (k s ∙ ap (λ (z : Float). min (nearestSize z) 8589934592) v) e
+    ∙ sym (to-octaves (ofBits binary32 b) s (signed b F) ∙ ap (λ (z : Bool). cond z 0 (min (nearestSize (ofBits binary32 b)) 4294967295)) (lt-leb 2147483648 b (omega arith)))
   where
     same : (w r n : ℕ) → w ≡ min n 8589934592 → r ≡ min w 4294967295 → r ≡ min n 4294967295
     same w r n e d = omega arith

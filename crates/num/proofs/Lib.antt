@@ -4,6 +4,7 @@ pub mod Patterns
 pub mod Ends
 pub mod Narrowing
 pub mod Finite
+pub mod Roundings
 pub mod Sizes
 pub mod Wholes
 pub mod Lists

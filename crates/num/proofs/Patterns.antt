@@ -21,7 +21,7 @@ pub size-exact : (a n : ℕ) → 2 ^ a ≤ n → n < 2 ^ suc a → size n ≡ su
 size-exact a n lo hi = le-antisymm (size-le n (suc a) hi) (lt-of-not-le (λ (g : size n ≤ a). not-le-of-lt (lt-of-lt-of-le (size-lt n) (pow-mono g)) lo))
 
 -- ---- what `closest` gives, by how twice the remainder compares
-cmp-lt : (a b : ℕ) → a < b → compare a b ≡ Ordering·lt
+pub cmp-lt : (a b : ℕ) → a < b → compare a b ≡ Ordering·lt
 cmp-lt a b h = go (compare a b) (le→leb a b (le-of-lt h)) (not-T (isEq (compare a b)) (λ (t : T (eqb a b)). clash a b h (eqb→eq a b t)))
   where
     clash : (a b : ℕ) → a < b → a ≡ b → ⊥
@@ -32,7 +32,7 @@ cmp-lt a b h = go (compare a b) (le→leb a b (le-of-lt h)) (not-T (isEq (compar
     go Ordering·eq p q = absurd q
     go Ordering·gt p q = absurd p
 
-cmp-gt : (a b : ℕ) → b < a → compare a b ≡ Ordering·gt
+pub cmp-gt : (a b : ℕ) → b < a → compare a b ≡ Ordering·gt
 cmp-gt a b h = go (compare a b) (lt→nleb a b h)
   where
     go : (o : Ordering) → T (not (isLe o)) → o ≡ Ordering·gt
@@ -40,7 +40,7 @@ cmp-gt a b h = go (compare a b) (lt→nleb a b h)
     go Ordering·eq p = absurd p
     go Ordering·gt p = refl
 
-cmp-eq : (a b : ℕ) → a ≡ b → compare a b ≡ Ordering·eq
+pub cmp-eq : (a b : ℕ) → a ≡ b → compare a b ≡ Ordering·eq
 cmp-eq a b e = go (compare a b) (subst (λ (x : ℕ). T (eqb a x)) e (eqb-refl a))
   where
     go : (o : Ordering) → T (isEq o) → o ≡ Ordering·eq

@@ -5,7 +5,7 @@ use Prim.Native.Nat.{ℕ, suc, _+_, _-_, _*_, _/_, _%_, _^_, _≤_, _<_, min}
 use native.Mathlib.Nat.{le-trans, le-of-eq, le-of-lt, lt-of-lt-of-le, lt-of-le-of-lt, zero-lt-suc, mul-one, mul-comm, mul-assoc, mul-right-comm, mul-pos, mul-le-mul-right, mul-le-mul-left, le-div-iff-mul-le, div-lt-iff-lt-mul, add-mul, add-mul-div-right, pow-suc}
 use native.Mathlib.Omega.{arith}
 use mathlib.Core.Bool.{Bool, true, false, not, cond, true≢false}
-use lib.Dec.{T, leb, leb→le, nleb→lt}
+use lib.Dec.{T, leb, leb→le, nleb→lt, lit≤}
 use lib.Pow.{pow-add, pow-pos, pow-mono, pow-lt, shl-lt}
 use borrow.Author.Tests.{lt-ltb, le-ltb}
 use lib.Ieee.{Float, nan, inf, fin, binary32, up, down, round, units, fits, nanBits, ofFields, ofBits, toBits}
@@ -19,8 +19,9 @@ use lib.Ieee.Back.{round-whole}
 use lib.Ieee.Nearest.{div-same}
 use Rattle.num.proofs.Patterns.{toBits-value, units-bits, finite-bits}
 use Rattle.num.specs.Whole.{halfUp, rounded}
-use Rattle.num.specs.Means.{awaySize}
-use Rattle.num.proofs.Sizes.{away-at, away-whole, away-tiny, lead-lt, lead-ge}
+use Rattle.num.specs.Means.{wholeBy}
+use Rattle.num.proofs.Roundings.{up-rounding, up-none}
+use Rattle.num.proofs.Sizes.{size-at, size-whole, size-tiny, lead-lt, lead-ge}
 use Rattle.num.proofs.Ends.{Sign, is, signed}
 
 -- ---- the bits of a whole number A that is g * 2 ^ k smallest values
@@ -37,8 +38,8 @@ whole-bits s A g k v e l h o f =
     same-bits (round binary32 s A 1) (units binary32 s g k) s (g * 2 ^ k) (subst (λ (a : ℕ). HasValue (round binary32 s A 1) s a (2 ^ 149)) e (scaled (round binary32 s A 1) s A v)) (units-val binary32 s g k f)
     ∙ units-bits s g k l h (inr o)
 
-to-rounded : (x : Float) (s : Bool) → Sign x s → rounded x ≡ round binary32 s (awaySize x) 1
-unfolding rounded awaySize
+to-rounded : (x : Float) (s : Bool) → Sign x s → rounded x ≡ round binary32 s (wholeBy halfUp x) 1
+unfolding rounded wholeBy
 to-rounded nan s h = absurd h
 to-rounded (inf t) s h = absurd h
 to-rounded (fin t m e) s h = ap (λ (b : Bool). round binary32 b (halfUp (m * up e) (down e)) 1) h
@@ -109,21 +110,24 @@ module _ (b : ℕ) (B : b < 4294967296) (F : b % 2147483648 < 2139095040) where
   digits : b % 8388608 < 8388608
   digits = omega arith
 
-  by-size : (A : ℕ) → awaySize (ofFields binary32 (leb 2147483648 b) (b / 8388608 % 256) (b % 8388608)) ≡ A → toBits binary32 (rounded (ofBits binary32 b)) ≡ toBits binary32 (round binary32 (leb 2147483648 b) A 1)
-  by-size A e = ap (toBits binary32) (to-rounded (ofBits binary32 b) (leb 2147483648 b) (signed b F) ∙ ap (λ (n : ℕ). round binary32 (leb 2147483648 b) n 1) (ap awaySize (is b F) ∙ e))
+  by-size : (A : ℕ) → wholeBy halfUp (ofFields binary32 (leb 2147483648 b) (b / 8388608 % 256) (b % 8388608)) ≡ A → toBits binary32 (rounded (ofBits binary32 b)) ≡ toBits binary32 (round binary32 (leb 2147483648 b) A 1)
+  by-size A e = ap (toBits binary32) (to-rounded (ofBits binary32 b) (leb 2147483648 b) (signed b F) ∙ ap (λ (n : ℕ). round binary32 (leb 2147483648 b) n 1) (ap (wholeBy halfUp) (is b F) ∙ e))
 
   pub round-tiny : b / 8388608 % 256 < 126 → b / 2147483648 * 2147483648 ≡ toBits binary32 (rounded (ofBits binary32 b))
-  round-tiny h = sym (by-size 0 (none (awaySize (ofFields binary32 (leb 2147483648 b) (b / 8388608 % 256) (b % 8388608))) (away-tiny (b % 8388608) digits (leb 2147483648 b) (b / 8388608 % 256) h)) ∙ zero-bits (leb 2147483648 b) ∙ sign-is)
+  round-tiny h = sym (by-size 0 (none (wholeBy halfUp (ofFields binary32 (leb 2147483648 b) (b / 8388608 % 256) (b % 8388608))) (size-tiny up-rounding (b % 8388608) digits (leb 2147483648 b) 25 (lit≤ tt) below-half (b / 8388608 % 256) (omega arith) (zero-lt-suc 24))) ∙ zero-bits (leb 2147483648 b) ∙ sign-is)
     where
       none : (n : ℕ) → 0 ≡ min n 8589934592 → n ≡ 0
       none n e = omega arith
+
+      below-half : (g u : ℕ) → g < 16777216 → 33554432 ≤ u → halfUp g u ≡ 0
+      below-half g u p q = up-none g u (omega arith)
 
   pub round-one : 126 ≤ b / 8388608 % 256 → b / 8388608 % 256 < 127 → b / 2147483648 * 2147483648 + 1065353216 ≡ toBits binary32 (rounded (ofBits binary32 b))
   round-one p h =
       let x = b / 8388608 % 256 in
       let t = b % 8388608 in
       let e : 150 - x ≡ 24 = omega arith in
-      sym (by-size 1 (away-at t digits (leb 2147483648 b) x (omega arith) (omega arith) ∙ ap (λ (d : ℕ). halfUp (8388608 + t) (2 ^ d)) e ∙ one t digits) ∙ one-bits (leb 2147483648 b) ∙ ap (λ (c : ℕ). c + 1065353216) sign-is)
+      sym (by-size 1 (size-at up-rounding t digits (leb 2147483648 b) x (omega arith) (omega arith) ∙ ap (λ (d : ℕ). halfUp (8388608 + t) (2 ^ d)) e ∙ one t digits) ∙ one-bits (leb 2147483648 b) ∙ ap (λ (c : ℕ). c + 1065353216) sign-is)
     where
       one : (t : ℕ) → t < 8388608 → ((8388608 + t) * 2 + 16777216) / 33554432 ≡ 1
       one t h = omega arith
@@ -138,8 +142,8 @@ module _ (b : ℕ) (B : b < 4294967296) (F : b % 2147483648 < 2139095040) where
       let k = x - 1 in
       let s = leb 2147483648 b in
       let u = 2 ^ d in
-      let lo : 8388608 ≤ g = lead-ge t digits s in
-      let hi : g < 16777216 = lead-lt t digits s in
+      let lo : 8388608 ≤ g = lead-ge t in
+      let hi : g < 16777216 = lead-lt t digits in
       let D : suc j ≡ d = omega arith in
       let L : d ≤ 23 = omega arith in
       let A = halfUp g u in
@@ -154,7 +158,7 @@ module _ (b : ℕ) (B : b < 4294967296) (F : b % 2147483648 < 2139095040) where
       let w : K * u ≡ (b / 2147483648 * 256 + k) * 8388608 = mul-assoc (b / 2147483648 * 256 + k) (2 ^ (23 - d)) u ∙ ap (λ (z : ℕ). (b / 2147483648 * 256 + k) * z) (parts g d j lo hi D L 23 L) in
       let c = cleared g d j lo hi D L K b (omega arith) in
       let r = whole-bits s A (A * u) k (round-whole binary32 s A (omega arith)) e (omega arith) q o f in
-      let v = by-size A (away-at t digits s x (omega arith) h) in
+      let v = by-size A (size-at up-rounding t digits s x (omega arith) h) in
       let y : K * u + A * u ≡ cond (leb 2147483648 b) 2147483648 0 + (k * 8388608 + A * u) = omega (arith, sign-is) in
       c ∙ y ∙ sym (v ∙ r)
 
@@ -165,14 +169,14 @@ module _ (b : ℕ) (B : b < 4294967296) (F : b % 2147483648 < 2139095040) where
       let g = 8388608 + t in
       let k = x - 1 in
       let s = leb 2147483648 b in
-      let lo : 8388608 ≤ g = lead-ge t digits s in
-      let hi : g < 16777216 = lead-lt t digits s in
+      let lo : 8388608 ≤ g = lead-ge t in
+      let hi : g < 16777216 = lead-lt t digits in
       let A = g * 2 ^ (x - 150) in
       let xk : x - 150 + 149 ≡ k = omega arith in
       let e : A * 2 ^ 149 ≡ g * 2 ^ k = mul-assoc g (2 ^ (x - 150)) (2 ^ 149) ∙ ap (λ (z : ℕ). g * z) (sym (pow-add 2 (x - 150) 149) ∙ ap (λ (z : ℕ). 2 ^ z) xk) in
       let f : g * 2 ^ k < 2 ^ 277 = lt-of-lt-of-le (shl-lt 24 k hi) (pow-mono {i = 24 + k} {j = 277} (omega arith)) in
       let r = whole-bits s A g k (round-exact binary32 s A 1 g k (zero-lt-suc 0) hi f (e ∙ sym (mul-one (g * 2 ^ k)))) e (omega arith) (le-of-lt hi) lo f in
-      let v = by-size A (away-whole t digits s x p (omega arith)) in
+      let v = by-size A (size-whole up-rounding t digits s x p (omega arith)) in
       let y : b ≡ cond (leb 2147483648 b) 2147483648 0 + (k * 8388608 + g) = omega (arith, sign-is) in
       y ∙ sym (v ∙ r)
 

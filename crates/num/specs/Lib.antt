@@ -5,3 +5,4 @@ pub mod Whole
 pub mod Means
 pub mod Sign
 pub mod Lists
+pub mod Cases

@@ -7,7 +7,7 @@ use lib.IntN.{ℤ, pos, negℤ}
 use Rattle.num.specs.declared.Number.{Number}
 use Rattle.num.specs.declared.Number.the-variants.{Finite, Not}
 use Rattle.num.specs.Narrowed.{orZero, asF32}
-use Rattle.num.specs.Whole.{halfUp}
+use Rattle.num.specs.Whole.{halfEven}
 
 -- the first where the test holds, and else the second
 abbrev pub pickNumber : Bool → Number → Number → Number
@@ -26,17 +26,19 @@ singleOf b = orZero (ofBits binary32 b)
 unfoldable pub doubleOf : ℕ → Float
 doubleOf b = asF32 (ofBits binary64 b)
 
--- |x| without its fraction, for a finite x
-unfoldable pub cutSize : Float → ℕ
-cutSize nan = 0
-cutSize (inf s) = 0
-cutSize (fin s m e) = m * up e / down e
+-- |x|, which is a fraction, as the whole number that a rounding of fractions gives, for a finite x
+unfoldable pub wholeBy : (ℕ → ℕ → ℕ) → Float → ℕ
+wholeBy R nan = 0
+wholeBy R (inf s) = 0
+wholeBy R (fin s m e) = R (m * up e) (down e)
 
--- |x| to the nearest whole number, a half away from zero, for a finite x
-unfoldable pub awaySize : Float → ℕ
-awaySize nan = 0
-awaySize (inf s) = 0
-awaySize (fin s m e) = halfUp (m * up e) (down e)
+-- |x| without its fraction
+abbrev pub cutSize : Float → ℕ
+cutSize = wholeBy _/_
+
+-- |x| to the nearest whole number, a half to the even one
+abbrev pub nearestSize : Float → ℕ
+nearestSize = wholeBy halfEven
 
 -- the i32 with this sign and size, held at both ends
 unfoldable pub heldSigned : Bool → ℕ → ℤ

@@ -2,13 +2,13 @@
 // Every public function takes any bits: infinities and NaN too.
 ghost use mathlib.Core.Path.{_≡_};
 ghost use mathlib.Core.Bool.{Bool, cond};
-ghost use Prim.Native.Nat.{_+_, _*_, _/_, _%_, _^_, _≤_, _<_, min};
+ghost use Prim.Native.Nat.{_+_, _-_, _*_, _/_, _%_, _^_, _≤_, _<_, min};
 ghost use lib.ListN.{length, getD};
 ghost use lib.Ieee.{binary32, binary64, ofFields, ofBits, toBits, toSigned};
 ghost use lib.Ieee.Nearest.{closest};
 ghost use lib.Ieee.Scale.{finite};
 ghost use Rattle.num.specs.Narrowed.{narrowed};
-ghost use Rattle.num.specs.Means.{ifFinite, singleOf, doubleOf, cutSize, awaySize, heldSigned};
+ghost use Rattle.num.specs.Means.{ifFinite, singleOf, doubleOf, cutSize, nearestSize, heldSigned};
 ghost use Rattle.num.specs.Constants.{plusZero};
 ghost use Rattle.num.specs.Whole.{octavesOf, rounded};
 ghost use Rattle.num.specs.Sign.{positive, signNegative, nearZero, f32Bound};
@@ -93,7 +93,7 @@ fn left(n: u64, d: u64) -> u64
     n << d
 }
 
-// ---- f64 to f32
+// ---- rounding
 
 // n / 2 ^ d to the nearest, a tie to the even one.
 fn nearest_shift(n: u64, d: u64) -> u64
@@ -111,6 +111,8 @@ fn nearest_shift(n: u64, d: u64) -> u64
         q + q % 2
     }
 }
+
+// ---- f64 to f32
 
 // The f32's bits without the sign, of an f64 that is no NaN and has the exponent's field x and the fraction t.
 fn magnitude(x: u64, t: u64) -> u64
@@ -185,6 +187,17 @@ pub fn double_narrowed(bits: u64) -> f32
 
 // ---- whole numbers
 
+// The size of an f32 from 2 ^ 23 on, which is whole, by the exponent's field x and the fraction t; held at 2 ^ 33.
+fn whole_size(x: u64, t: u64) -> u64
+    requires { ⌜ (150 ≤ x) × (t < 8388608) ⌝ }
+    ensures { λ r. ⌜ r ≡ min ((8388608 + t) * 2 ^ (x - 150)) 8589934592 ⌝ }
+{
+    if x < 160 {
+        return left(0x80_0000 + t, x - 150);
+    }
+    0x2_0000_0000
+}
+
 // The size of the finite f32 with the exponent's field x and the fraction t, cut, and held at 2 ^ 33.
 fn cut_size32(x: u64, t: u64) -> u64
     requires { ⌜ (x < 255) × (t < 8388608) ⌝ }
@@ -193,14 +206,10 @@ fn cut_size32(x: u64, t: u64) -> u64
     if x < 127 {
         return 0;
     }
-    let g = 0x80_0000 + t;
     if x < 150 {
-        return g >> (150 - x);
+        return (0x80_0000 + t) >> (150 - x);
     }
-    if x < 160 {
-        return left(g, x - 150);
-    }
-    0x2_0000_0000
+    whole_size(x, t)
 }
 
 // The same for an f64.
@@ -217,22 +226,18 @@ fn cut_size64(x: u64, t: u64) -> u64
     0x2_0000_0000
 }
 
-// The size of a finite f32, rounded half away from zero, and held at 2 ^ 33.
-fn away_size(x: u64, t: u64) -> u64
+// The size of a finite f32 to the nearest whole number, a half to the even one, and held at 2 ^ 33.
+fn nearest_size(x: u64, t: u64) -> u64
     requires { ⌜ (x < 255) × (t < 8388608) ⌝ }
-    ensures { λ r. ⌜ ((s : Bool) → r ≡ min (awaySize (ofFields binary32 s x t)) 8589934592) ⌝ }
+    ensures { λ r. ⌜ ((s : Bool) → r ≡ min (nearestSize (ofFields binary32 s x t)) 8589934592) ⌝ }
 {
     if x < 126 {
         return 0;
     }
-    let g = 0x80_0000 + t;
     if x < 150 {
-        return (g * 2 + unit64(150 - x)) >> (151 - x);
+        return nearest_shift(0x80_0000 + t, 150 - x);
     }
-    if x < 160 {
-        return left(g, x - 150);
-    }
-    0x2_0000_0000
+    whole_size(x, t)
 }
 
 // A sign and a size as an i32, held at its ends.
@@ -282,7 +287,7 @@ pub fn f64_to_i32(bits: u64) -> i32
     0
 }
 
-// `numOctaves`: half away from zero to u32, held at its ends; 0 where the sign is set, and for NaN.
+// `numOctaves`: 0 where the sign is set; else to the nearest u32, a half to the even one, held at its upper end. 0 for NaN.
 pub fn octaves(x: f32) -> u32
     ensures { λ r. ⌜ r ≡ octavesOf x ⌝ }
 {
@@ -291,7 +296,7 @@ pub fn octaves(x: f32) -> u32
         return 0;
     }
     if bits < 0x7f80_0000 {
-        let w = away_size(exponent32(bits) as u64, fraction32(bits) as u64);
+        let w = nearest_size(exponent32(bits) as u64, fraction32(bits) as u64);
         if w < 0x1_0000_0000 {
             return w as u32;
         }

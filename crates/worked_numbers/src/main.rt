@@ -1,6 +1,6 @@
 // Runs worked numbers through the compiled functions of `num` and prints one line a result: the function, its argument's bits in hex,
-// and the answer. The stored `stdout` was written by a Rust program of its own that uses Rust's `as f32`, `as i32`, `as u32`,
-// `f32::round`, `is_finite` and `is_sign_negative`, with every NaN printed as 7fc00000.
+// and the answer. The answers of the stored `stdout` are the harness's (its command `numbers`): Rust's `as f32`, `as i32`, `f32::round`, `is_finite` and
+// `is_sign_negative`, and for octaves a second implementation in Rust; every NaN is printed as 7fc00000.
 use bits::bits_of;
 use libc::STDOUT_FILENO;
 use num::Number;
@@ -293,6 +293,51 @@ fn singles() {
     single_lines(&xs);
 }
 
+// ---- octaves
+
+// With the sign clear, and with it set.
+fn octaves_lines(xs: &[u32]) {
+    let mut i = 0;
+    while i < xs.len() {
+        octaves_line(xs[i]);
+        octaves_line(xs[i] | 0x8000_0000);
+        i += 1;
+    }
+}
+
+fn halves() {
+    let xs: [u32; 23] = [
+        // the smallest subnormal
+        0x0000_0001,
+        // 0.5, 1.5, 2.5, 3.5, each between the f32 on either side
+        0x3eff_ffff,
+        0x3f00_0000,
+        0x3f00_0001,
+        0x3fbf_ffff,
+        0x3fc0_0000,
+        0x3fc0_0001,
+        0x401f_ffff,
+        0x4020_0000,
+        0x4020_0001,
+        0x405f_ffff,
+        0x4060_0000,
+        0x4060_0001,
+        // halves on both sides of 2 ^ 22; the last two, and 8,388,608, from which on every f32 is whole
+        0x4a7f_fffe,
+        0x4a80_0001,
+        0x4aff_fffd,
+        0x4aff_fffe,
+        0x4aff_ffff,
+        0x4b00_0000,
+        0x4b00_0001,
+        // 2 ^ 32 between the f32 on either side
+        0x4f7f_ffff,
+        0x4f80_0000,
+        0x4f80_0001,
+    ];
+    octaves_lines(&xs);
+}
+
 // ---- bounds
 
 fn bound_line(min: u32, val: u32, max: u32) {
@@ -366,6 +411,7 @@ fn lists() {
 fn main() {
     doubles();
     singles();
+    halves();
     bounds();
     lists();
 }

@@ -15,13 +15,13 @@ value : (c : tie.After-bits-of) → ofBits binary32 (c .bits-of .result) ≡ c .
 value c = bits-back (c .before .args .x) (c .bits-of .result) (subst T (sym (c .before .good .0 .1)) tt) (c .bits-of .ensures)
 
 returns : tie.Need-returns
-returns c = octaves-minus (c .before .bits-of .result) (c .if1 .taken) ∙ ap octavesOf (value (c .before))
+returns c = octaves-minus (c .before .bits-of .result) (omega (arith, c .if1 .taken)) ∙ ap octavesOf (value (c .before))
 
 returns-2 : tie.Need-returns-2
-returns-2 c = octaves-plus (c .before .before .before .before .before .before .bits-of .result) (c .before .before .before .exponent32 .result) (c .before .before .fraction32 .result) (c .before .away-size .result) (c .before .away-size .result) (c .before .before .before .exponent32 .ensures) (c .before .before .fraction32 .ensures) (c .before .before .before .before .if2 .taken) (c .before .away-size .ensures) (omega (arith, c .if3 .taken)) ∙ ap octavesOf (value (c .before .before .before .before .before .before))
+returns-2 c = octaves-plus (c .before .before .before .before .before .before .bits-of .result) (c .before .before .before .exponent32 .result) (c .before .before .fraction32 .result) (c .before .nearest-size .result) (c .before .nearest-size .result) (c .before .before .before .exponent32 .ensures) (c .before .before .fraction32 .ensures) (omega (arith, c .before .before .before .before .before .if1 .left, c .before .before .before .before .if2 .taken)) (c .before .nearest-size .ensures) (omega (arith, c .if3 .taken)) ∙ ap octavesOf (value (c .before .before .before .before .before .before))
 
 returns-3 : tie.Need-returns-3
-returns-3 c = octaves-plus (c .before .before .before .before .before .before .bits-of .result) (c .before .before .before .exponent32 .result) (c .before .before .fraction32 .result) (c .before .away-size .result) 4294967295 (c .before .before .before .exponent32 .ensures) (c .before .before .fraction32 .ensures) (c .before .before .before .before .if2 .taken) (c .before .away-size .ensures) (omega (arith, c .if3 .left)) ∙ ap octavesOf (value (c .before .before .before .before .before .before))
+returns-3 c = octaves-plus (c .before .before .before .before .before .before .bits-of .result) (c .before .before .before .exponent32 .result) (c .before .before .fraction32 .result) (c .before .nearest-size .result) 4294967295 (c .before .before .before .exponent32 .ensures) (c .before .before .fraction32 .ensures) (omega (arith, c .before .before .before .before .before .if1 .left, c .before .before .before .before .if2 .taken)) (c .before .nearest-size .ensures) (omega (arith, c .if3 .left)) ∙ ap octavesOf (value (c .before .before .before .before .before .before))
 
 returns-4 : tie.Need-returns-4
 returns-4 c = octaves-inf (c .before .before .before .bits-of .result) (c .if4 .taken) ∙ ap octavesOf (value (c .before .before .before))
