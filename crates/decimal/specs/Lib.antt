@@ -1,0 +1,5 @@
+pub mod Grammar
+pub mod Limits
+pub mod Value
+pub mod Means
+pub mod Cases
