@@ -4,7 +4,7 @@ use mathlib.Core.Bool.{Bool, true, false, _&&_}
 use lib.Ieee.{Float, nan, inf, fin, ofBits, lt, le}
 use lib.Ieee.Scale.{finite}
 use Rattle.num.specs.declared.Number.the-variants.{Finite, Not}
-use Rattle.num.specs.Narrowed.{narrowed, orZero}
+use Rattle.num.specs.Narrowed.{narrowed}
 use Rattle.num.specs.Means.{ifFinite, pickNumber}
 use Rattle.num.specs.Sign.{opacityIn}
 use Rattle.geom.specs.Geometry.{zeroF32, validLength, viewBoxLength}
@@ -59,7 +59,3 @@ no-opacity nan e = refl
 no-opacity (inf true) e = refl
 no-opacity (inf false) e = refl
 no-opacity (fin s m k) e = cc
-
-pub read-finite : (x : Float) → finite x ≡ true → orZero x ≡ x
-unfolding orZero
-read-finite x e = rw e

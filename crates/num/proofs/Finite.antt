@@ -65,6 +65,10 @@ pub zero-finite : T (finite plusZero)
 unfolding ofBits
 zero-finite = tt
 
+pub orZero-is : (x : Float) → finite x ≡ true → orZero x ≡ x
+unfolding orZero
+orZero-is x e = rw e
+
 pub orZero-finite : (x : Float) → T (finite (orZero x))
 unfolding orZero ofBits
 orZero-finite nan = tt

@@ -7,5 +7,4 @@ pub mod Finite
 pub mod Roundings
 pub mod Sizes
 pub mod Wholes
-pub mod Lists
 pub mod Each

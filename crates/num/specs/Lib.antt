@@ -4,5 +4,4 @@ pub mod Narrowed
 pub mod Whole
 pub mod Means
 pub mod Sign
-pub mod Lists
 pub mod Cases

@@ -1,20 +1,16 @@
-// Numbers: f64 narrowed to f32, f32 and f64 rounded and cut to whole numbers, near zero, lists of numbers.
+// Numbers: f64 narrowed to f32, f32 and f64 rounded and cut to whole numbers, near zero.
 // Every public function takes any bits: infinities and NaN too.
 ghost use mathlib.Core.Path.{_≡_};
 ghost use mathlib.Core.Bool.{Bool, cond};
 ghost use Prim.Native.Nat.{_+_, _-_, _*_, _/_, _%_, _^_, _≤_, _<_, min};
-ghost use lib.ListN.{length, getD};
 ghost use lib.Ieee.{binary32, binary64, ofFields, ofBits, toBits, toSigned};
 ghost use lib.Ieee.Nearest.{closest};
 ghost use lib.Ieee.Scale.{finite};
 ghost use Rattle.num.specs.Narrowed.{narrowed};
 ghost use Rattle.num.specs.Means.{ifFinite, singleOf, doubleOf, cutSize, nearestSize, heldSigned};
-ghost use Rattle.num.specs.Constants.{plusZero};
 ghost use Rattle.num.specs.Whole.{octavesOf, rounded};
 ghost use Rattle.num.specs.Sign.{positive, signNegative, nearZero, f32Bound};
-ghost use Rattle.num.specs.Lists.{numbersIs};
 use bits::bits_of;
-use bits::get32;
 
 // ---- the fields of a pattern
 
@@ -383,29 +379,4 @@ pub fn f32_bound(min: f32, val: f32, max: f32) -> f32
     } else {
         min
     }
-}
-
-// ---- lists of numbers in bytes
-
-// count f32 from the byte at on.
-pub struct Numbers {
-    pub at: u32,
-    pub count: u16,
-}
-
-// How many numbers the list has.
-pub fn numbers_len(s: &[u8], ns: Numbers) -> u16
-    ensures { λ r. ⌜ r ≡ length (numbersIs (now (s .entry)) ns) ⌝ }
-{
-    ns.count
-}
-
-// The number at i, 0 past the list's end.
-pub fn number_at(s: &[u8], ns: Numbers, i: u16) -> f32
-    ensures { λ r. ⌜ r ≡ getD (numbersIs (now (s .entry)) ns) i plusZero ⌝ }
-{
-    if i < ns.count {
-        return single(get32(s, (ns.at as usize) + 4 * (i as usize)));
-    }
-    0.0
 }
