@@ -1,0 +1,3 @@
+pub mod Attributes
+pub mod Sheets
+pub mod Answers
