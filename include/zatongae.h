@@ -32,11 +32,11 @@ extern "C" {
 #define ZATONGAE_SHEET_BYTES 65536
 
 /* No list is longer (theorem `accepted-fits` of crates/list_bounds), so with an output of this size 9 is never given. */
-#define ZATONGAE_LIST_BYTES 524288
+#define ZATONGAE_LIST_BYTES 589824
 
 /* The numbers of an answer. They are tested in this order, and the first whose cause holds is given:
  *
- *   - 1, 2, 3, 4, 5, each over the whole sheet, used or not;
+ *   - 1, 2, 10, 11, 3, 4, 5, each over the whole sheet, used or not;
  *   - 6 for placing the filter region;
  *   - 8 where the primitives are in box units and there is no box. No child is looked at then, so a child that would give 6 does not;
  *   - the first 6 or 7 that a child meets, in child order, up to the child that ends the chain;
@@ -54,7 +54,10 @@ enum zatongae_number {
                                     box units, box width + height is not finite */
     ZATONGAE_BASE_FREQUENCY = 7, /* a base frequency positive in sign but not finite. No call answers it, since 3 comes before: that is proved */
     ZATONGAE_NO_PRIMITIVE = 8,   /* no child makes a primitive, or primitives in box units have no box */
-    ZATONGAE_NO_ROOM = 9         /* the output is shorter than the list */
+    ZATONGAE_NO_ROOM = 9,        /* the output is shorter than the list */
+    ZATONGAE_OUTSIDE_GRAMMAR = 10, /* a typed list (kind 7) with an item that is no number of SVG 1.1's grammar, with items that are not parted by white space
+                                      or one comma, with a comma at either end, or of over 1,024 items */
+    ZATONGAE_OUTSIDE_LIMITS = 11   /* an item of a typed list with more than 15 digits, leading zeros not counted, or a power of ten outside -22 to 22 */
 };
 
 /* What a call answers: ZATONGAE_LIST and the list's length, or the number of the refusal and length 0. */
@@ -72,7 +75,7 @@ struct zatongae_answer {
  *
  * Any other number: length is 0 and every byte of out is as it was.
  *
- * Stack: at most 9,080 bytes, measured on 4,331 sheets, every kind of child and every number but 7 among them. */
+ * Stack: at most 9,160 bytes, measured on 6,093 sheets, every kind of child and every number but 7 among them. */
 struct zatongae_answer zatongae_convert(const uint8_t *sheet, size_t sheet_len, uint8_t *out, size_t out_len);
 
 /* The bits of an f64 to the bits of the nearest f32, ties to even; the way in which every f64 of a sheet is taken. Too large a number gives the infinity of

@@ -1,5 +1,5 @@
 #!/usr/bin/env python3
-"""refusal_sheets.py: sheets for each refusal that a call can give, with the number that document 01 asks for. From the top of the repository:
+"""refusal_sheets.py: sheets for each refusal that a call can give, with the number that document 01 asks for, and document 02 for typed lists. From the top of the repository:
 
     python3 tools/refusal_sheets.py > crates/refusals/stdin
 
@@ -14,7 +14,7 @@ PLACES = dict(line.split() for line in open('crates/names_list/stdout'))
 
 NONE, ABSENT = 0, 255
 USER, BOX, DEFAULT = 0, 1, 2
-TEXT, NUMBER, LIST, LENGTH = 1, 2, 3, 4
+TEXT, NUMBER, LIST, LENGTH, TYPED = 1, 2, 3, 4, 7
 NAN = float('nan')
 LARGEST = struct.unpack('<f', b'\xff\xff\x7f\x7f')[0]
 
@@ -41,6 +41,10 @@ def number(name, value):
 
 def numbers(name, values):
     return attribute(name, LIST, struct.pack('<%df' % len(values), *values))
+
+
+def typed(name, value):
+    return attribute(name, TYPED, value)
 
 
 def length(name, value, unit=NONE):
@@ -74,6 +78,11 @@ def of_size(size):
     return named(b'r' * (size - len(named(b''))))
 
 
+def listed(*texts):
+    """Tiles with typed lists, which a tile does not use."""
+    return sheet(*[node(TILE, typed('Values', value)) for value in texts])
+
+
 def merge_list(name, inputs, result):
     """A tile, and a merge of so many inputs that each name it. The list has 58 bytes, the merge's result, and (name + 3) * (inputs + 1)."""
     return sheet(node(TILE, text('Result', b'n' * name)), node(MERGE, text('Result', result)), *[node(0, depth=1)] * inputs)
@@ -100,6 +109,43 @@ CASES = [
     (2, 'text that is not UTF-8', sheet(node(TILE, text('In', b'\xed\xa0\x80')))),
     (2, 'unit 255 on a child', sheet(node(TILE, length('X', 0, ABSENT)))),
     (2, 'layout and a number, both bad', sheet(node(TILE, number('Seed', NAN)), gap=1)),
+    (2, 'typed list of 4,097 bytes', listed(b' ' * 4097)),
+    (0, 'typed list of 4,096 bytes', listed(b' ' * 4096)),
+    (2, 'typed list under a text\'s id', sheet(node(TILE, typed('In', b'1')))),
+    (2, 'typed list under a number\'s id', sheet(node(TILE, typed('Seed', b'1')))),
+    (2, 'typed tableValues on a child', sheet(node(TILE, typed('TableValues', b'1')))),
+    (2, 'typed list of 4,097 bytes behind one outside the grammar', listed(b',', b' ' * 4097)),
+    # 10: typed lists outside the grammar, used or not
+    (10, 'comma at the end', listed(b'1,')),
+    (10, 'comma at the start', listed(b',1')),
+    (10, 'two commas', listed(b'1,,2')),
+    (0, 'a comma among white space', listed(b'\t1 ,\r\n2 ')),
+    (0, 'empty typed list', listed(b'')),
+    (0, 'white space alone', listed(b' \t\r\n')),
+    (10, 'form feed', listed(b'1\f2')),
+    (10, 'NUL', listed(b'1\x002')),
+    (10, 'typed list that is not UTF-8', listed(b'1\xff')),
+    (10, 'point without a digit behind it', listed(b'1.')),
+    (0, 'point without a digit before it', listed(b'.5')),
+    (10, 'point alone', listed(b'.')),
+    (10, 'sign alone', listed(b'+')),
+    (10, 'exponent without digits', listed(b'1e')),
+    (10, 'items that are not parted', listed(b'1-2')),
+    (10, '1,025 items', listed(b','.join([b'0'] * 1025))),
+    (0, '1,024 items', listed(b','.join([b'0'] * 1024))),
+    (10, 'first list outside the limits, second outside the grammar', listed(b'1e23', b'1,')),
+    (10, 'grammar and a number, both bad', sheet(node(TILE, number('Seed', NAN), typed('Values', b'1,')))),
+    # 11: and outside the limits
+    (11, '16 digits', listed(b'1234567890123456')),
+    (0, '15 digits behind zeros', listed(b'000123456789012.345')),
+    (11, 'trailing zeros are digits', listed(b'1000000000000000')),
+    (11, 'power 23', listed(b'1e23')),
+    (0, 'power 22', listed(b'1e22')),
+    (11, 'power -23', listed(b'.1e-22')),
+    (0, 'power -22', listed(b'.1e-21')),
+    (11, 'power 23 of zero', listed(b'0e23')),
+    (11, 'limits and a number, both bad', sheet(node(TILE, number('Seed', NAN), typed('Values', b'1e23')))),
+    (11, 'limits and feImage, both bad', sheet(node(IMAGE), node(TILE, typed('Values', b'1e23')))),
     # 3: numbers, used or not
     (3, 'seed NaN on a tile', sheet(node(TILE, number('Seed', NAN)))),
     (3, 'length beyond f32', sheet(node(TILE, length('X', 1e39)))),

@@ -8,7 +8,7 @@ use lib.ListN.{length, drop}
 use Rattle.answer.specs.Refusals.{refusalNumber}
 use Rattle.answer.specs.Outcomes.{Outcome, refused, given, inRoom, Answers}
 use Rattle.answer.specs.declared.Refusal.{Refusal}
-use Rattle.answer.specs.declared.Refusal.the-variants.{TooLarge, Malformed, BadNumber, Image, NoRegion, Unrepresentable, BadFrequency, NoPrimitive, ShortOutput}
+use Rattle.answer.specs.declared.Refusal.the-variants.{TooLarge, Malformed, BadNumber, Image, NoRegion, Unrepresentable, BadFrequency, NoPrimitive, ShortOutput, OutsideGrammar, OutsideLimits}
 use Rattle.answer.specs.declared.Answer.{Answer}
 
 pub never-zero : (r : Refusal) → refusalNumber r ≡ 0 → ⊥
@@ -21,6 +21,8 @@ never-zero Unrepresentable e = omega arith
 never-zero BadFrequency e = omega arith
 never-zero NoPrimitive e = omega arith
 never-zero ShortOutput e = omega arith
+never-zero OutsideGrammar e = omega arith
+never-zero OutsideLimits e = omega arith
 
 module _ {A : Type 0} (bytes : A → List ℕ) (o : List ℕ) (r : Answer) where
   -- the same outcome, said otherwise

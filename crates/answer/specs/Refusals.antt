@@ -1,7 +1,7 @@
--- The numbers of document 01's table "When no list is given". Definitions only.
+-- The numbers of document 01's table "When no list is given", and those that document 02 adds. Definitions only.
 use Prim.Native.Nat.{ℕ}
 use Rattle.answer.specs.declared.Refusal.{Refusal}
-use Rattle.answer.specs.declared.Refusal.the-variants.{TooLarge, Malformed, BadNumber, Image, NoRegion, Unrepresentable, BadFrequency, NoPrimitive, ShortOutput}
+use Rattle.answer.specs.declared.Refusal.the-variants.{TooLarge, Malformed, BadNumber, Image, NoRegion, Unrepresentable, BadFrequency, NoPrimitive, ShortOutput, OutsideGrammar, OutsideLimits}
 
 abbrev pub refusalNumber : Refusal → ℕ
 -- "sheet over 65,536 bytes, or node count over 512"
@@ -22,3 +22,7 @@ refusalNumber BadFrequency = 7
 refusalNumber NoPrimitive = 8
 -- "output shorter than the list"
 refusalNumber ShortOutput = 9
+-- document 02, [2], of a typed list: "text outside that grammar, UTF-8 or not, or over 1,024 items"
+refusalNumber OutsideGrammar = 10
+-- "more than 15 digits or a power outside −22 to 22"
+refusalNumber OutsideLimits = 11

@@ -1,4 +1,4 @@
-// What a call answers: the refusals of document 01's table, one case for each number, and the answer's two numbers.
+// What a call answers: the refusals of document 01's table and those of document 02, one case for each number, and the answer's two numbers.
 ghost use mathlib.Core.Path.{_≡_};
 ghost use Rattle.answer.specs.Refusals.{refusalNumber};
 
@@ -13,6 +13,8 @@ pub enum Refusal {
     BadFrequency,
     NoPrimitive,
     ShortOutput,
+    OutsideGrammar,
+    OutsideLimits,
 }
 
 // Whether a sheet, or a function record, passes the tests of its bytes.
@@ -41,6 +43,8 @@ pub fn refusal_number(refusal: Refusal) -> u32
         Refusal::BadFrequency => 7,
         Refusal::NoPrimitive => 8,
         Refusal::ShortOutput => 9,
+        Refusal::OutsideGrammar => 10,
+        Refusal::OutsideLimits => 11,
     }
 }
 

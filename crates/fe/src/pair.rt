@@ -1,12 +1,12 @@
 // A number for x and one for y, as `radius`, `baseFrequency` and `stdDeviation` have them.
 ghost use mathlib.Core.Path.{_≡_};
-ghost use Rattle.num.specs.Lists.{numbersIs};
+ghost use Rattle.number_list.specs.Lists.{numbersIs};
 ghost use Rattle.fe.specs.Pairs.{pairIn, signsClear, ifPositive};
-use num::Numbers;
 use num::is_positive;
 use num::is_sign_negative;
-use num::number_at;
-use num::numbers_len;
+use number_list::Numbers;
+use number_list::number_at;
+use number_list::numbers_len;
 
 pub struct Pair {
     pub x: f32,

@@ -1,16 +1,16 @@
 // feColorMatrix.
 ghost use mathlib.Core.Path.{_≡_};
-ghost use Rattle.num.specs.Lists.{numbersIs};
+ghost use Rattle.number_list.specs.Lists.{numbersIs};
 ghost use Rattle.svgtree.specs.Parse.{nodeFrom};
 ghost use Rattle.svgtree.specs.Means.{maybeNumbersIs};
 ghost use Rattle.tree.specs.Means.{colorMatrixKindIs};
 ghost use Rattle.fe_color.specs.ColorMatrix.{firstOr, saturateOf, hueRotateOf, matrixOf, colorMatrixKindOf};
 use fe::is_word;
 use names::aid;
-use num::Numbers;
 use num::f32_bound;
-use num::number_at;
-use num::numbers_len;
+use number_list::Numbers;
+use number_list::number_at;
+use number_list::numbers_len;
 use svgtree::MaybeNumbers;
 use svgtree::numbers_of;
 use svgtree::text_of;

@@ -4,7 +4,7 @@ ghost use Prim.Native.Nat.{_+_, _<_};
 ghost use mathlib.Core.Bool.{cond};
 ghost use mathlib.Core.List.{[], _∷_};
 ghost use lib.Dec.{eqb};
-ghost use Rattle.num.specs.Lists.{numbersIs};
+ghost use Rattle.number_list.specs.Lists.{numbersIs};
 ghost use Rattle.svgtree.specs.Parse.{nodeFrom, nodesFrom};
 ghost use Rattle.tree.specs.Means.{transferFunctionIs, componentTransferIs};
 ghost use Rattle.fe_color.specs.ComponentTransfer.{tableValuesOf, linearOf, gammaOf, transferFunctionOf, transferFrom, componentTransferOf};
@@ -13,7 +13,8 @@ use fe::is_word;
 use fe::number_or;
 use names::aid;
 use names::eid;
-use num::Numbers;
+use number_list::Numbers;
+use number_list::no_numbers;
 use svgtree::MaybeNumbers;
 use svgtree::node_offset;
 use svgtree::numbers_of;
@@ -35,7 +36,7 @@ fn table_values(s: &[u8], at: u16) -> Numbers
     let values = numbers_of(s, at, aid::TABLE_VALUES);
     match values {
         MaybeNumbers::Is(list) => list,
-        MaybeNumbers::No => Numbers { at: 0, count: 0 },
+        MaybeNumbers::No => no_numbers(),
     }
 }
 

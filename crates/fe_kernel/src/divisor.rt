@@ -1,25 +1,28 @@
 // The attribute `divisor`.
 ghost use mathlib.Core.Path.{_≡_};
-ghost use Rattle.num.specs.Lists.{numbersIs};
+ghost use Rattle.number_list.specs.Lists.{numbersIs};
 ghost use Rattle.num.specs.Constants.{plusZero};
 ghost use Rattle.svgtree.specs.Parse.{nodeFrom};
 ghost use Rattle.fe_kernel.specs.Divisor.{sumFrom, defaultDivisor, divisorOf};
 use fe::number_or;
 use names::aid;
-use num::Numbers;
 use num::approx_zero_ulps;
-use num::number_at;
-use num::numbers_len;
 use num::round_f32;
+use number_list::Numbers;
+use number_list::after_number;
+use number_list::number_from;
+use number_list::numbers_len;
 
 fn sum(s: &[u8], kernel: Numbers) -> f32
     ensures { λ r. ⌜ r ≡ sumFrom plusZero (numbersIs (now (s .entry)) kernel) ⌝ }
 {
     let n = numbers_len(s, kernel);
     let mut total = 0.0;
+    let mut from = 0;
     let mut i: u16 = 0;
     while i < n {
-        total = total + number_at(s, kernel, i);
+        total = total + number_from(s, kernel, i, from);
+        from = after_number(s, kernel, from);
         i += 1;
     }
     total

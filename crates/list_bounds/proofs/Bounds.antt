@@ -1,4 +1,4 @@
--- The list of an accepted sheet has at most 483,330 bytes, so it fits the output that the header names; its counts and its offsets fit their widths.
+-- The list of an accepted sheet has at most 548,866 bytes, so it fits the output that the header names; its counts and its offsets fit their widths.
 -- Assumes nothing.
 use Prim.Native.Nat.{ℕ, _≤_, _<_}
 use native.Mathlib.Omega.{arith}
@@ -28,10 +28,10 @@ use Rattle.list_bounds.proofs.Widths.{pairs-fit, counts-fit}
 use Rattle.list_bounds.proofs.Chains.{chain-long}
 use Rattle.list_bounds.proofs.Sheets.{nodesNumbers, numbers-fit}
 
--- ---- any frame, and nodes whose f32 lists take at most so many bytes as a sheet may have
+-- ---- any frame, and nodes whose lists have at most so many bytes of numbers as a sheet may give: twice its own
 
-module _ (f : Frame) (ns : List Node) (few : length ns ≤ 512) (small : nodesNumbers ns ≤ 65536) (cs : List Child) (counted : chain f ns ≡ kept cs) (w : ListWithin (primitives cs)) where
-  bytes-most : length (listBytes (primitives cs)) ≤ 483330
+module _ (f : Frame) (ns : List Node) (few : length ns ≤ 512) (small : nodesNumbers ns ≤ 131072) (cs : List Child) (counted : chain f ns ≡ kept cs) (w : ListWithin (primitives cs)) where
+  bytes-most : length (listBytes (primitives cs)) ≤ 548866
   bytes-most = omega (arith, list-long start cs (w .within), chain-long f ns cs counted)
 
   pub list-fits : ListFits (primitives cs)

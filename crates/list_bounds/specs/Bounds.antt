@@ -9,7 +9,7 @@ use Rattle.tree.specs.List.{primitiveSize, listBytes}
 
 -- as many bytes as any list of an accepted sheet needs: ZATONGAE_LIST_BYTES of include/zatongae.h
 abbrev pub mostBytes : ℕ
-mostBytes = 524288
+mostBytes = 589824
 
 -- The numbers that a list writes as a u32 for its pairs: each record's offset and length
 

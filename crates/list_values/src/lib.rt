@@ -5,7 +5,7 @@ ghost use Prim.Native.Nat.{_+_, _*_, _^_, _≤_, _<_};
 ghost use lib.ListN.{length, take};
 ghost use Rattle.bits.specs.Patch.{Put};
 ghost use Rattle.bits.specs.Texts.{textIs};
-ghost use Rattle.num.specs.Lists.{numbersIs};
+ghost use Rattle.number_list.specs.Lists.{numbersIs};
 ghost use Rattle.tree.specs.Input.{textBytes};
 ghost use Rattle.tree.specs.Scalars.{boolByte, twosComplement, i32Bytes, colorBytes, rectBytes, optionBytes, numbersBytes, runBytes};
 ghost use Rattle.tree.specs.Places.{colorInterpolationPlace, blendModePlace, edgeModePlace, colorChannelPlace, morphologyOperatorPlace, turbulenceKindPlace};
@@ -23,9 +23,10 @@ use bits::u8_to_u16;
 use bits::u16_to_u32;
 use bits::wide16;
 use geom::Rect;
-use num::Numbers;
-use num::number_at;
-use num::numbers_len;
+use number_list::Numbers;
+use number_list::after_number;
+use number_list::number_from;
+use number_list::numbers_len;
 use tree::BlendMode;
 use tree::Color;
 use tree::ColorChannel;
@@ -206,9 +207,11 @@ fn put_run(s: &[u8], v: Numbers, n: u16, out: &mut [u8], at: usize) -> usize
     ensures { λ r. ⌜ Put (now (out .entry)) at (4 * n) (runBytes (numbersIs (now (s .entry)) v)) (now (out .exit)) r ⌝ }
 {
     let mut o = at;
+    let mut from = 0;
     let mut j: u16 = 0;
     while j < n {
-        o = put_f32(out, o, number_at(s, v, j));
+        o = put_f32(out, o, number_from(s, v, j, from));
+        from = after_number(s, v, from);
         j += 1;
     }
     o

@@ -5,7 +5,7 @@ use Prim.Native.Nat.{ℕ}
 use mathlib.Core.Bool.{Bool, false, cond, not, _&&_, _||_}
 use mathlib.Core.List.{List, [], _∷_}
 use lib.Dec.{eqb, leb}
-use Rattle.sheet_fields.specs.Fields.{Kind·Unreadable, Kind·Text, Kind·Number, Kind·Numbers, Kind·Length, Kind·Color, Kind·Tries}
+use Rattle.sheet_fields.specs.Fields.{Kind·Unreadable, Kind·Text, Kind·Number, Kind·Numbers, Kind·Length, Kind·Color, Kind·Tries, Kind·Typed}
 use Rattle.names.specs.Ids.{EId·COUNT, AId·ColorInterpolationFilters, AId·Result, AId·In, AId·In2, AId·Mode, AId·Type, AId·Operator}
 use Rattle.names.specs.Ids.{AId·EdgeMode, AId·PreserveAlpha, AId·XChannelSelector, AId·YChannelSelector, AId·StitchTiles, AId·K1}
 use Rattle.names.specs.Ids.{AId·K2, AId·K3, AId·K4, AId·Divisor, AId·Bias, AId·TargetX, AId·TargetY, AId·Scale, AId·FloodOpacity}
@@ -66,12 +66,14 @@ unfoldable pub kindAt : (depth id : ℕ) → ℕ
 kindAt depth id = cond (eqb depth 0) (kindIn onChild id) (kindIn onGrandchild id)
 
 -- whether a value of a kind may stand under an id at a depth. No value may where the id is not read. Where it is, the value has the kind that is
--- asked, or is unreadable, which text never is; and lighting-color may be text too (that the text is `currentColor` is not said here)
+-- asked, or is unreadable, which text never is; a list may be typed (document 02, [2]); and lighting-color may be text too (that the text is
+-- `currentColor` is not said here)
 unfoldable pub kindAllowed : (depth id kind : ℕ) → Bool
 kindAllowed depth id kind =
     not (eqb (kindAt depth id) 0) &&
     (eqb kind (kindAt depth id) ||
     (eqb kind Kind·Unreadable && not (eqb (kindAt depth id) Kind·Text)) ||
+    (eqb kind Kind·Typed && eqb (kindAt depth id) Kind·Numbers) ||
     (eqb kind Kind·Text && eqb id AId·LightingColor))
 
 -- a tag byte is 0, a node without a name, or 1 + a place in `EId`, counted from 0

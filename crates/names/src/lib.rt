@@ -93,6 +93,9 @@ pub fn kind_allowed(depth: u8, id: u16, kind: u8) -> bool
     if kind == asked {
         return true;
     }
+    if kind == kind::TYPED {
+        return asked == kind::NUMBERS;
+    }
     if kind == kind::UNREADABLE {
         return asked != kind::TEXT;
     }

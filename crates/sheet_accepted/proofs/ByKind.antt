@@ -14,8 +14,8 @@ use Rattle.bits.specs.Utf8.{utf8}
 use Rattle.bits.proofs.Runs.{length-bytesFrom}
 use Rattle.num.specs.Numbers.{Each}
 use Rattle.names.specs.Kinds.{kindAllowed}
-use Rattle.sheet_fields.specs.Fields.{Kind·Unreadable, Kind·Text, Kind·Number, Kind·Numbers, Kind·Length, Kind·Color, Kind·Tries}
-use Rattle.sheet_fields.specs.Fields.{Size·TextMost, Size·Number, Size·NumbersMost, Size·Length, Size·Color, Size·Tries, Unit·Percent}
+use Rattle.sheet_fields.specs.Fields.{Kind·Unreadable, Kind·Text, Kind·Number, Kind·Numbers, Kind·Length, Kind·Color, Kind·Tries, Kind·Typed}
+use Rattle.sheet_fields.specs.Fields.{Size·TextMost, Size·Number, Size·NumbersMost, Size·Length, Size·Color, Size·Tries, Size·TypedMost, Unit·Percent}
 use Rattle.svgtree.specs.Parse.{attributeKind, attributeLength, valuePlace, placesOf, offsetOf}
 use Rattle.field_tests.specs.Tests.{all}
 use Rattle.sheet_layout.specs.Records.{entryAt, nodeRecordAt}
@@ -31,6 +31,7 @@ pub data InKind (s : List ℕ) (at len : ℕ) : ℕ → Type 0 where
   plain-length : len ≡ Size·Length → InKind s at len Kind·Length
   color : len ≡ Size·Color → InKind s at len Kind·Color
   tries : len ≡ Size·Tries → InKind s at len Kind·Tries
+  typed : len ≤ Size·TypedMost → InKind s at len Kind·Typed
 
 module _ (s : List ℕ) (at len kind : ℕ) where
   abbrev b : List ℕ
@@ -72,7 +73,8 @@ module _ (s : List ℕ) (at len kind : ℕ) where
       (pick Kind·Numbers (eqb (n % Size·Number) 0 && leb (n / Size·Number) Size·NumbersMost) _ numbers-in
       (pick Kind·Length (eqb n Size·Length && leb (getD b 0 0) Unit·Percent) _ (λ h. plain-length (sized Size·Length (and-l (eqb n Size·Length) (leb (getD b 0 0) Unit·Percent) h)))
       (pick Kind·Color (eqb n Size·Color) _ (λ h. color (sized Size·Color h))
-      (pick Kind·Tries (eqb n Size·Tries && triesOk b) false (λ h. tries (sized Size·Tries (and-l (eqb n Size·Tries) (triesOk b) h))) (λ h. absurd h)))))))
+      (pick Kind·Tries (eqb n Size·Tries && triesOk b) _ (λ h. tries (sized Size·Tries (and-l (eqb n Size·Tries) (triesOk b) h)))
+      (pick Kind·Typed (leb n Size·TypedMost) false (λ h. typed (subst (λ (m : ℕ). m ≤ Size·TypedMost) is-len (leb→le n Size·TypedMost h))) (λ h. absurd h))))))))
 
 -- ---- the attributes of a node
 

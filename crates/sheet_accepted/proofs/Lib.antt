@@ -1,8 +1,10 @@
 pub mod ByKind
+pub mod Texts
 pub mod Layouts
 pub mod Opacities
 pub mod Accepted
 pub mod Whole
+pub mod Values
 pub mod Behind
 pub mod End
 pub mod Numbers

@@ -16,7 +16,7 @@ use Rattle.geom.specs.Geometry.{zeroF32, largest, ofSize, validLength, viewBoxL
 use Rattle.names.specs.Ids.{AId·FloodOpacity}
 use Rattle.svgtree.specs.Values.{Value, absent, textValue, numberValue, numbersValue, lengthValue, colorValue, triesValue, Attribute, Node, Bounds, Header, Sheet}
 use Rattle.field_tests.specs.Tests.{all, doubleOk}
-use Rattle.field_tests.proofs.Finiteness.{read-finite}
+use Rattle.num.proofs.Finite.{orZero-is}
 use Rattle.sheet_check.specs.Numbers.{tryNumberOk, valueNumbersOk, opacityOk, attributeNumbersOk, nodeNumbersOk, exists, boundsOk, headerLengthsNumbersOk, headerNumbersOk, numbersOk}
 use Rattle.sheet_accepted.specs.Given.{GivenSingle, GivenDouble, GivenTry, GivenValue, GivenAttribute, GivenNode, GivenBox, GivenHeader, GivenNumbers}
 
@@ -29,7 +29,7 @@ each-passed p P f (x ∷ xs) h = (f x (and-l (p x) (all p xs) h), each-passed p 
 -- ---- a number
 
 finite-given : (x : Float) → T (finite x) → GivenSingle x
-finite-given x h = read-finite x (is-true (finite x) h)
+finite-given x h = orZero-is x (is-true (finite x) h)
 
 double-given : (x : Float) → T (doubleOk x) → GivenDouble x
 unfolding doubleOk

@@ -1,5 +1,6 @@
--- An accepted sheet is read as it is given. The readers of a sheet (`svgtree`) take any bytes: a number that is not finite reads as +0, a text is cut at
--- 255 bytes, a byte past the end reads as 0, and a node's offset is read modulo 65,536. Of a sheet past refusals 1 to 4 none of these substitutes is used.
+-- An accepted sheet is read as it is given. The readers of a sheet (`svgtree`) take any bytes: a number that is not finite reads as +0, and so does an item
+-- of a typed list that is outside the grammar or the limits; a text is cut at 255 bytes, a byte past the end reads as 0, and a node's offset is read modulo
+-- 65,536. Of a sheet past refusals 1 to 4, 10 and 11 none of these substitutes is used.
 -- Definitions only.
 use Prim.Native.Nat.{ℕ, _*_, _<_}
 use mathlib.Core.Path.{_≡_}
@@ -12,9 +13,10 @@ use lib.Ieee.Scale.{finite}
 use Rattle.bits.specs.Bytes.{bytesFrom}
 use Rattle.num.specs.Narrowed.{narrowed, orZero, asF32}
 use Rattle.num.specs.Numbers.{Each}
-use Rattle.sheet_fields.specs.Fields.{Size·Number, Size·Length, Size·Color, Size·Tries}
+use Rattle.number_list.specs.Outcome.{passed, textOutcome}
+use Rattle.sheet_fields.specs.Fields.{Kind·Typed, Size·Number, Size·Length, Size·Color, Size·Tries}
 use Rattle.svgtree.specs.Values.{Value, absent, textValue, numberValue, numbersValue, lengthValue, colorValue, triesValue, Attribute, Node, Bounds, Header, Sheet}
-use Rattle.svgtree.specs.Parse.{attributeLength, valuePlace, attributeAt, placesOf, countOf, pairOffset, offsetOf, sheetOf}
+use Rattle.svgtree.specs.Parse.{attributeKind, attributeLength, valuePlace, attributeAt, placesOf, countOf, pairOffset, offsetOf, sheetOf}
 
 -- ---- numbers
 
@@ -68,7 +70,7 @@ pub record GivenNumbers (sheet : Sheet) : Type 0 where
 
 -- ---- bytes
 
--- a value and the bytes that its attribute has for it: a text is all of them, and what is read of another kind takes all of them
+-- a value and the bytes that its attribute has for it: a text is all of them, and what is read of another kind, unless it is typed, takes all of them
 abbrev pub Whole : Value → List ℕ → Type 0
 Whole absent bytes = bytes ≡ []
 Whole (textValue t) bytes = t ≡ bytes
@@ -78,9 +80,16 @@ Whole (lengthValue u x) bytes = length bytes ≡ Size·Length
 Whole (colorValue k) bytes = length bytes ≡ Size·Color
 Whole (triesValue t) bytes = length bytes ≡ Size·Tries
 
+-- a typed list and its text: the numbers that are read are those of the text's outcome, so the text is within the grammar and the limits
+pub record WholeText (v : Value) (text : List ℕ) : Type 0 where
+  pub listed : List Float
+  pub outcome : textOutcome text ≡ passed listed
+  pub value : v ≡ numbersValue listed
+
 -- the attribute at a place, with as many bytes as its length says
-abbrev pub WholeAt : List ℕ → ℕ → Type 0
-WholeAt s at = Whole (attributeAt s at .value) (bytesFrom s (valuePlace at) (attributeLength s at))
+pub record WholeAt (s : List ℕ) (at : ℕ) : Type 0 where
+  pub typed : attributeKind s at ≡ Kind·Typed → WholeText (attributeAt s at .value) (bytesFrom s (valuePlace at) (attributeLength s at))
+  pub other : (attributeKind s at ≡ Kind·Typed → ⊥) → Whole (attributeAt s at .value) (bytesFrom s (valuePlace at) (attributeLength s at))
 
 -- ---- the sheet
 

@@ -1,4 +1,4 @@
--- What holds of the nodes of an accepted sheet, as far as a list depends on it: refusals 1 to 3 turn every other sheet away. No header has a say here,
+-- What holds of the nodes of an accepted sheet, as far as a list depends on it: refusals 1 to 3, 10 and 11 turn every other sheet away. No header has a say here,
 -- so the nodes may be converted in the frame of another sheet. Definitions only.
 use Prim.Native.Nat.{ℕ, _≤_}
 use mathlib.Core.Path.{_≡_}
@@ -14,7 +14,7 @@ use Rattle.svgtree.specs.Readers.{valueUnder}
 use Rattle.field_tests.specs.Tests.{all}
 use Rattle.sheet_check.specs.Numbers.{opacityOk}
 
--- a value: "text, UTF-8, to 255 bytes", "f32", "f32 list, to 1,024", "colour (red, green, blue, alpha)" of a byte each
+-- a value: "text, UTF-8, to 255 bytes", "f32", "f32 list, to 1,024", typed or not, "colour (red, green, blue, alpha)" of a byte each
 abbrev pub AcceptedValue : Value → Type 0
 AcceptedValue absent = Unit {0}
 AcceptedValue (textValue t) = (length t ≤ 255) × (utf8 t ≡ true)

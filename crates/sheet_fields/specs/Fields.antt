@@ -112,7 +112,11 @@ Kind·Color = 5
 abbrev pub Kind·Tries : ℕ
 Kind·Tries = 6
 
--- the bytes of a value of each kind; of a text at most so many, and of a list at most so many numbers
+-- document 02, [2]: a list of numbers as it is typed
+abbrev pub Kind·Typed : ℕ
+Kind·Typed = 7
+
+-- the bytes of a value of each kind; of a text and of a typed list at most so many, and of a list at most so many numbers
 abbrev pub Size·TextMost : ℕ
 Size·TextMost = 255
 
@@ -130,6 +134,9 @@ Size·Color = 4
 
 abbrev pub Size·Tries : ℕ
 Size·Tries = 27
+
+abbrev pub Size·TypedMost : ℕ
+Size·TypedMost = 4096
 
 -- a length begins with its unit byte and a try with its mark; the f64 stands behind it
 abbrev pub Marked·Number : ℕ

@@ -88,9 +88,11 @@ pub mod kind {
     pub const COLOR: u8 = 5;
 
     pub const TRIES: u8 = 6;
+
+    pub const TYPED: u8 = 7;
 }
 
-// How many bytes a value has. Texts and lists of numbers have at most so many bytes and numbers.
+// How many bytes a value has. Texts, lists of numbers and typed lists have at most so many bytes, numbers and bytes.
 pub mod size {
     pub const TEXT_MOST: u16 = 255;
 
@@ -103,6 +105,8 @@ pub mod size {
     pub const COLOR: u16 = 4;
 
     pub const TRIES: u16 = 27;
+
+    pub const TYPED_MOST: u16 = 4096;
 }
 
 // A length begins with its unit, a try with its mark; behind it stands an f64.

@@ -10,8 +10,8 @@ use Rattle.bits.specs.Words.{word}
 use Rattle.names.specs.Ids.{AId·LightingColor}
 use Rattle.names.specs.Kinds.{kindAllowed, tagOk}
 use Rattle.sheet_fields.specs.Fields.{Header·FilterUnits, Header·PrimitiveUnits, Header·BoxPresent, Header·Zero, Header·BoxX, Header·BoxSize, Header·X, Header·Y, Header·Width, Header·Height}
-use Rattle.sheet_fields.specs.Fields.{Node·Attributes, Kind·Unreadable, Kind·Text, Kind·Number, Kind·Numbers, Kind·Length, Kind·Color, Kind·Tries}
-use Rattle.sheet_fields.specs.Fields.{Size·TextMost, Size·Number, Size·NumbersMost, Size·Length, Size·Color, Size·Tries, Marked·Number, Marked·NumberSize, Tries·Second, Tries·Third}
+use Rattle.sheet_fields.specs.Fields.{Node·Attributes, Kind·Unreadable, Kind·Text, Kind·Number, Kind·Numbers, Kind·Length, Kind·Color, Kind·Tries, Kind·Typed}
+use Rattle.sheet_fields.specs.Fields.{Size·TextMost, Size·Number, Size·NumbersMost, Size·Length, Size·Color, Size·Tries, Size·TypedMost, Marked·Number, Marked·NumberSize, Tries·Second, Tries·Third}
 use Rattle.sheet_fields.specs.Fields.{Space·Absent, Unit·Percent, Unit·Absent}
 use Rattle.svgtree.specs.Parse.{countOf, pairPlace}
 use Rattle.sheet_layout.specs.Tests.{rising, sum}
@@ -58,7 +58,8 @@ triesOk b =
     && leb (getD b Tries·Third 0) (getD b Tries·Second 0)
 
 -- the bytes of a value of a kind: "0 unreadable, empty ..; 1 text, UTF-8, to 255 bytes; 2 f32; 3 f32 list, to 1,024; 4 length; 5 colour (red,
--- green, blue, alpha); 6 exactly three tries". The crate limits neither texts nor lists
+-- green, blue, alpha); 6 exactly three tries"; and document 02, [2]: "kind 7: text of up to 4,096 bytes", UTF-8 or not. The crate limits neither texts
+-- nor lists
 unfoldable pub bytesOk : ℕ → List ℕ → Bool
 bytesOk kind b =
     cond (eqb kind Kind·Unreadable) (eqb (length b) 0)
@@ -67,7 +68,8 @@ bytesOk kind b =
     (cond (eqb kind Kind·Numbers) (eqb (length b % Size·Number) 0 && leb (length b / Size·Number) Size·NumbersMost)
     (cond (eqb kind Kind·Length) (eqb (length b) Size·Length && leb (getD b 0 0) Unit·Percent)
     (cond (eqb kind Kind·Color) (eqb (length b) Size·Color)
-    (cond (eqb kind Kind·Tries) (eqb (length b) Size·Tries && triesOk b) false))))))
+    (cond (eqb kind Kind·Tries) (eqb (length b) Size·Tries && triesOk b)
+    (cond (eqb kind Kind·Typed) (leb (length b) Size·TypedMost) false)))))))
 
 -- "lighting-color is kind 5, kind 0 or the text `currentColor`"
 unfoldable pub wordOk : (id kind : ℕ) → List ℕ → Bool

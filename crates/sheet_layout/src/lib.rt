@@ -190,6 +190,7 @@ fn bytes_ok(s: &[u8], kind: u8, at: u32, len: u16) -> bool
         kind::LENGTH => length_ok(s, at, len),
         kind::COLOR => len == size::COLOR,
         kind::TRIES => tries_ok(s, at, len),
+        kind::TYPED => len <= size::TYPED_MOST,
         _ => false,
     }
 }

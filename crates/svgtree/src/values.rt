@@ -25,9 +25,10 @@ use bits::byte;
 use bits::get32;
 use bits::get64;
 use bits::wide32;
-use num::Numbers;
 use num::double_narrowed;
 use num::single;
+use number_list::packed;
+use number_list::typed;
 use sheet_fields::kind;
 use sheet_fields::marked;
 use sheet_fields::size;
@@ -84,13 +85,12 @@ pub(crate) fn find_numbers(s: &[u8], at: u16, id: u16) -> MaybeNumbers
     match f {
         Found::At { at, len, kind } => {
             if kind == kind::NUMBERS {
-                MaybeNumbers::Is(Numbers {
-                    at,
-                    count: len / size::NUMBER,
-                })
-            } else {
-                MaybeNumbers::No
+                return MaybeNumbers::Is(packed(at, len / size::NUMBER));
             }
+            if kind == kind::TYPED {
+                return MaybeNumbers::Is(typed(at, len));
+            }
+            MaybeNumbers::No
         }
         Found::Absent => MaybeNumbers::No,
     }

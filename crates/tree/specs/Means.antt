@@ -1,7 +1,7 @@
 -- What the code's values stand for, where they hold places in the lent bytes. Definitions only.
 use Prim.Native.Nat.{ℕ}
 use mathlib.Core.List.{List}
-use Rattle.num.specs.Lists.{numbersIs}
+use Rattle.number_list.specs.Lists.{numbersIs}
 use Rattle.tree.specs.Kinds as spec
 use Rattle.tree.specs.declared.ColorMatrixKind.{ColorMatrixKind}
 use Rattle.tree.specs.declared.ColorMatrixKind.the-variants as matrix

@@ -1,7 +1,7 @@
 // The filter primitive's types.
 // Where the source has a Vec or a String, a value holds a place in the lent bytes. A kind's inputs are not held here: in
 // each struct of the source they come first, so a kind is its place, its inputs, and the fields that these types hold.
-use num::Numbers;
+use number_list::Numbers;
 
 // The types of tree/mod.rs.
 

@@ -4,7 +4,7 @@
 use bits::bits_of;
 use libc::STDOUT_FILENO;
 use num::Number;
-use num::Numbers;
+use number_list::packed;
 
 fn write(text: &[u8]) {
     io::write_all(STDOUT_FILENO, text);
@@ -384,11 +384,11 @@ fn bounds() {
 
 // The list's length and the number at i.
 fn number_line(s: &[u8], at: u32, count: u16, i: u16) {
-    let ns = Numbers { at, count };
+    let ns = packed(at, count);
     write(b"number_at ");
-    write_u32(bits::u16_to_u32(num::numbers_len(s, ns)));
+    write_u32(bits::u16_to_u32(number_list::numbers_len(s, ns)));
     write(b" ");
-    write_f32(num::number_at(s, ns, i));
+    write_f32(number_list::number_at(s, ns, i));
     write(b"\n");
 }
 

@@ -7,7 +7,7 @@ use Rattle.tree.specs.Sizes.{colorMatrixKindSize}
 use Rattle.tree.specs.Means.{colorMatrixKindIs}
 use Rattle.tree.specs.Kinds.{identityMatrix}
 use Rattle.tree.proofs.Runs.{length-numbers}
-use Rattle.num.specs.Lists.{numbersIs}
+use Rattle.number_list.specs.Lists.{numbersIs}
 use native.Mathlib.Omega.{arith}
 use borrow.Author.Needs.{needs}
 use Rattle.list_values.proofs.color_matrix_kind_size.Statement.{statement}

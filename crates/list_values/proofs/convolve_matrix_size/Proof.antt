@@ -2,7 +2,7 @@
 use denote.Ref.{now}
 use Rattle.tree.proofs.Lengths.{length-convolveMatrix}
 use Rattle.tree.proofs.Runs.{length-numbers}
-use Rattle.num.specs.Lists.{numbersIs}
+use Rattle.number_list.specs.Lists.{numbersIs}
 use Rattle.tree.specs.Means.{convolveMatrixIs}
 use native.Mathlib.Omega.{arith}
 use borrow.Author.Needs.{needs}

@@ -1,7 +1,7 @@
 -- A count of two bytes, and four bytes for each number. Assumes nothing.
 use denote.Ref.{now}
 use Rattle.tree.proofs.Runs.{length-numbers}
-use Rattle.num.specs.Lists.{numbersIs}
+use Rattle.number_list.specs.Lists.{numbersIs}
 use native.Mathlib.Omega.{arith}
 use borrow.Author.Needs.{needs}
 use Rattle.list_values.proofs.numbers_size.Statement.{statement}

@@ -6,7 +6,7 @@ use Rattle.tree.proofs.Lengths.{length-transferFunction}
 use Rattle.tree.specs.Sizes.{transferFunctionSize}
 use Rattle.tree.specs.Means.{transferFunctionIs}
 use Rattle.tree.proofs.Runs.{length-numbers}
-use Rattle.num.specs.Lists.{numbersIs}
+use Rattle.number_list.specs.Lists.{numbersIs}
 use native.Mathlib.Omega.{arith}
 use borrow.Author.Needs.{needs}
 use Rattle.list_values.proofs.transfer_function_size.Statement.{statement}

@@ -32,9 +32,13 @@ returns-7 c = rw (c .before .match .keys7) (c .tries-ok .ensures)
 
 returns-8 : tie.Need-returns-8
 unfolding bytesOk
-returns-8 c =
+returns-8 c = rw (c .match .keys8) (simp length-bytesFrom)
+
+returns-9 : tie.Need-returns-9
+unfolding bytesOk
+returns-9 c =
     let r = c .match .rest in
-    simp (ne-eqb _ 0 (r .0 .0 .0 .0 .0 .0 .1), ne-eqb _ 1 (r .0 .0 .0 .0 .0 .1), ne-eqb _ 2 (r .0 .0 .0 .0 .1), ne-eqb _ 3 (r .0 .0 .0 .1), ne-eqb _ 4 (r .0 .0 .1), ne-eqb _ 5 (r .0 .1), ne-eqb _ 6 (r .1))
+    simp (ne-eqb _ 0 (r .0 .0 .0 .0 .0 .0 .0 .1), ne-eqb _ 1 (r .0 .0 .0 .0 .0 .0 .1), ne-eqb _ 2 (r .0 .0 .0 .0 .0 .1), ne-eqb _ 3 (r .0 .0 .0 .0 .1), ne-eqb _ 4 (r .0 .0 .0 .1), ne-eqb _ 5 (r .0 .0 .1), ne-eqb _ 6 (r .0 .1), ne-eqb _ 7 (r .1))
 
 pub bytes-ok-spec : {M : Type 1} → statement M
 bytes-ok-spec =
@@ -51,4 +55,5 @@ bytes-ok-spec =
     returns-5
     returns-6
     returns-7
-    returns-8)
+    returns-8
+    returns-9)

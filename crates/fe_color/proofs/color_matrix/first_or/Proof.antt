@@ -1,7 +1,7 @@
 -- `color_matrix::first_or` meets its contract: a list of length 0 has no first number, and any other has it at 0. Assumes nothing.
 use Rattle.fe_color.proofs.First.{first-none, first-some}
 use denote.Ref.{now}
-use Rattle.num.specs.Lists.{numbersIs}
+use Rattle.number_list.specs.Lists.{numbersIs}
 use mathlib.Core.Path.{sym, _∙_}
 use borrow.Author.Needs.{needs}
 use Rattle.fe_color.proofs.color_matrix.first_or.Statement.{statement}

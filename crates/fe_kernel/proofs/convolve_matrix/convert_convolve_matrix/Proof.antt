@@ -2,7 +2,7 @@
 -- the kernel. Assumes nothing.
 use mathlib.Core.Path.{_≡_, sym, _∙_}
 use denote.Ref.{now}
-use Rattle.num.specs.Lists.{numbersIs}
+use Rattle.number_list.specs.Lists.{numbersIs}
 use Rattle.svgtree.specs.Values.{Node}
 use Rattle.svgtree.specs.Parse.{nodeFrom}
 use Rattle.fe_kernel.specs.ConvolveMatrix.{kernelMatrixOf, convolveWith, convolveMatrixOf}
