@@ -5,7 +5,9 @@
 #   harness/run.sh [-s FOLDER] store                writes the stored answers of crates/replay
 #   harness/run.sh [-s FOLDER] lists                writes the stored lists of crates/read, and which are in the layout
 #   harness/run.sh [-s FOLDER] numbers              works out again the stored answers of crates/worked_numbers
-#   harness/run.sh [-s FOLDER] speed                prints the first two tables of docs/SPEED.md
+#   harness/run.sh [-s FOLDER] typed [ITEMS]        items of typed lists, one million and the hard ones, through the whole call
+#   harness/run.sh [-s FOLDER] twins [SHEETS]       sheets with typed lists beside the same with kind 3, 100,000 unless said otherwise
+#   harness/run.sh [-s FOLDER] speed                prints the first two tables of docs/SPEED.md, and one of typed lists
 #   harness/run.sh [-s FOLDER] real SVG..           the third: the filters of the SVG files below these folders (needs python3)
 #   harness/run.sh [-s FOLDER] help                 every command and option
 #

@@ -115,7 +115,7 @@ fn reader(depth: u8, id: AId) -> (Node, Vec<Node>, bool) {
 }
 
 /// A sheet in which an element reads this attribute.
-fn reading(depth: u8, a: Attr) -> Sheet {
+pub fn reading(depth: u8, a: Attr) -> Sheet {
     let (mut n, mut children, on_child) = reader(depth, AIDS[a.id as usize]);
     if on_child {
         children[0].set(a);
@@ -220,10 +220,10 @@ impl Corners {
         for depth in [0, 1] {
             for id in AIDS {
                 let right = kind_of(depth, *id);
-                for kind in 0..=7 {
+                for kind in 0..=8 {
                     let value = match kind {
                         0 => Vec::new(),
-                        7 => vec![0; 4],
+                        8 => vec![0; 4],
                         k => Generator::new(&mut rng, false).any_value(*id, k).value,
                     };
                     let mut s = on(depth, Attr::new(*id as u16, kind, value));
@@ -560,7 +560,7 @@ impl Corners {
 }
 
 /// A feTile with an attribute, or a feMergeNode below a feMerge.
-fn on(depth: u8, a: Attr) -> Sheet {
+pub fn on(depth: u8, a: Attr) -> Sheet {
     Sheet::plain(if depth == 0 {
         vec![with(fe(EId::FeTile), [a])]
     } else {
@@ -581,5 +581,6 @@ pub fn corners() -> Vec<Corner> {
     c.naming();
     c.kernels();
     c.octaves();
+    c.0.append(&mut crate::typed_corners::corners());
     c.0
 }

@@ -2,9 +2,10 @@
 
 use oracle::{AIDS, AId, EIDS, EId, kind_of};
 
-use crate::generate::{Generator, length_attr, list_attr, number_attr, text_attr};
+use crate::generate::{Generator, length_attr, list_attr, number_attr, text_attr, typed_attr};
 use crate::model::{Attr, Node, Sheet, tag};
 use crate::rng::Rng;
+use crate::texts::{BEYOND, NO_ITEMS, any_list};
 use crate::values::{NOT_FINITE, NOT_FINITE_64, NOT_UTF8, le32};
 
 pub struct Rule {
@@ -37,11 +38,16 @@ fn tagged(s: &mut Sheet, rng: &mut Rng, depth: Option<u8>) -> usize {
     s.nodes.len() - 1
 }
 
+/// The kind that an id asks where it may come as this kind: typed lists stand in the place of lists.
+fn asked(kind: u8) -> u8 {
+    if kind == 7 { 3 } else { kind }
+}
+
 /// An attribute of a kind, sound as yet, on some node: node, place among its attributes.
 fn attribute(s: &mut Sheet, rng: &mut Rng, kind: u8) -> (usize, usize) {
-    let n = tagged(s, rng, if kind > 3 { Some(0) } else { None });
+    let n = tagged(s, rng, if asked(kind) > 3 { Some(0) } else { None });
     let depth = s.nodes[n].depth;
-    let ids: Vec<AId> = AIDS.iter().copied().filter(|id| kind_of(depth, *id) == Some(kind)).collect();
+    let ids: Vec<AId> = AIDS.iter().copied().filter(|id| kind_of(depth, *id) == Some(asked(kind))).collect();
     let id = *rng.pick(&ids);
     let a = Generator::new(rng, false).any_value(id, kind);
     s.nodes[n].set(a);
@@ -57,6 +63,61 @@ fn with_value(s: &mut Sheet, rng: &mut Rng, kind: u8, change: impl FnOnce(&mut V
 /// The value gets another length than its kind asks.
 fn resized(s: &mut Sheet, rng: &mut Rng, kind: u8, lengths: &[usize]) {
     with_value(s, rng, kind, |v, rng| v.resize(*rng.pick(lengths), 0));
+}
+
+/// Some typed list gets this text.
+fn typed(s: &mut Sheet, rng: &mut Rng, text: &[u8]) {
+    with_value(s, rng, 7, |v, _| *v = text.to_vec());
+}
+
+/// This item among sound ones.
+fn among(rng: &mut Rng, item: &[u8]) -> Vec<u8> {
+    let (before, behind) = (any_list(rng, 3), any_list(rng, 3));
+    [&before[..], b" ", item, b"\n", &behind].concat()
+}
+
+/// A text with an item outside the grammar.
+fn outside(rng: &mut Rng) -> Vec<u8> {
+    let item = *rng.pick(NO_ITEMS);
+    among(rng, item)
+}
+
+/// A text with an item beyond the limits.
+fn beyond(rng: &mut Rng) -> Vec<u8> {
+    let item = rng.pick(BEYOND).as_bytes();
+    among(rng, item)
+}
+
+/// Puts a node at the end, with a typed list of this text that it may have.
+fn typed_behind(s: &mut Sheet, rng: &mut Rng, text: &[u8]) {
+    s.nodes.push(Node::fe(*rng.pick(&[
+        EId::FeTile,
+        EId::FeMorphology,
+        EId::FeColorMatrix,
+        EId::FeComponentTransfer,
+        EId::G,
+    ])));
+    let id = if rng.percent(50) {
+        *rng.pick(&[AId::Values, AId::KernelMatrix, AId::Radius, AId::BaseFrequency])
+    } else {
+        s.nodes.push(Node::new(1, *rng.pick(&[tag(EId::FeFuncR), tag(EId::FeMergeNode)])));
+        AId::TableValues
+    };
+    s.nodes.last_mut().unwrap().set(typed_attr(id, text));
+}
+
+/// Puts such a node before all others.
+fn typed_before(s: &mut Sheet, rng: &mut Rng, text: &[u8]) {
+    let id = *rng.pick(&[AId::Values, AId::KernelMatrix, AId::Radius, AId::BaseFrequency]);
+    s.nodes.insert(0, with(Node::fe(*rng.pick(&[EId::FeTile, EId::FeTurbulence, EId::G])), typed_attr(id, text)));
+}
+
+/// So many items, each a digit.
+fn digits(rng: &mut Rng, count: usize) -> Vec<u8> {
+    let between = *rng.pick(b" ,\t\n\r");
+    let mut t: Vec<u8> = (0..count).flat_map(|i| [b'0' + (i % 10) as u8, between]).collect();
+    t.pop();
+    t
 }
 
 fn not_in(rng: &mut Rng, good: &[u8]) -> u8 {
@@ -260,7 +321,7 @@ rules! {
         s.nodes[n].attrs.swap(i, i + 1);
     }
     2 "id twice" |s, rng| {
-        let kind = rng.within(1, 6) as u8;
+        let kind = rng.within(1, 7) as u8;
         let (n, a) = attribute(s, rng, kind);
         let again = s.nodes[n].attrs[a].clone();
         s.nodes[n].attrs.insert(a, again);
@@ -293,10 +354,10 @@ rules! {
         let current = other == 1 && id == AId::LightingColor as u16 && fresh.value == b"currentColor";
         s.nodes[n].attrs[a] = if current { text_attr(AId::LightingColor, "x") } else { fresh };
     }
-    2 "kind above 6" |s, rng| {
-        let kind = rng.within(1, 6) as u8;
+    2 "kind above 7" |s, rng| {
+        let kind = rng.within(1, 7) as u8;
         let (n, a) = attribute(s, rng, kind);
-        s.nodes[n].attrs[a].kind = not_in(rng, &[0, 1, 2, 3, 4, 5, 6]);
+        s.nodes[n].attrs[a].kind = not_in(rng, &[0, 1, 2, 3, 4, 5, 6, 7]);
     }
     2 "text as kind 0" |s, rng| {
         let (n, a) = attribute(s, rng, 1);
@@ -310,7 +371,7 @@ rules! {
         s.nodes[n].attrs[a].value = vec![0; 1 + rng.below(6)];
     }
     2 "attribute zero byte" |s, rng| {
-        let kind = rng.within(1, 6) as u8;
+        let kind = rng.within(1, 7) as u8;
         let (n, a) = attribute(s, rng, kind);
         s.nodes[n].attrs[a].zero = not_in(rng, &[0]);
     }
@@ -322,7 +383,7 @@ rules! {
         s.nodes[n].attrs.last_mut().unwrap().length = Some(*rng.pick(&[6, 7, 255, 0xffff]));
     }
     2 "attribute length off by one" |s, rng| {
-        let kind = rng.within(2, 6) as u8;
+        let kind = rng.within(2, 7) as u8;
         let (n, a) = attribute(s, rng, kind);
         let length = s.nodes[n].attrs[a].value.len() as u16;
         s.nodes[n].attrs[a].length = Some(length.wrapping_add(*rng.pick(&[1, 0xffff])));
@@ -390,7 +451,186 @@ rules! {
         let n = tagged(s, rng, Some(0));
         s.nodes[n].set(text_attr(*rng.pick(&[AId::FloodColor, AId::Color]), "currentColor"));
     }
+    // ---- 2, typed lists
+    2 "typed list over 4,096 bytes" |s, rng| {
+        let mut t = any_list(rng, 5);
+        t.resize(*rng.pick(&[4097, 4098, 4099, 5000, 8192]), b' ');
+        if rng.percent(30) { t.rotate_right(4000); }
+        typed(s, rng, &t);
+    }
+    2 "typed list over 4,096 bytes, outside the grammar" |s, rng| {
+        let b = *rng.pick(b"\0,a\xff");
+        typed(s, rng, &[b; 4097]);
+    }
+    2 "typed list under an id of another kind" |s, rng| {
+        let kind = *rng.pick(&[1, 2, 4, 5, 6]);
+        let (n, a) = attribute(s, rng, kind);
+        s.nodes[n].attrs[a].kind = 7;
+        s.nodes[n].attrs[a].value = rng.pick(&[&b""[..], b"1", b"1 2", b"true", b"currentColor", b"1.", b"1e23"]).to_vec();
+    }
+    2 "typed list at the other depth" |s, rng| {
+        let depth = rng.below(2) as u8;
+        let n = tagged(s, rng, Some(depth));
+        let id = if depth == 0 {
+            AId::TableValues
+        } else {
+            *rng.pick(&[AId::Values, AId::KernelMatrix, AId::Radius, AId::BaseFrequency])
+        };
+        s.nodes[n].set(typed_attr(id, rng.pick(&["", "1", "1 2", "1.", "1e23"]).as_bytes()));
+    }
+    2 "layout broken behind a typed list that is 10 or 11" |s, rng| {
+        let t = if rng.percent(50) { outside(rng) } else { beyond(rng) };
+        typed_before(s, rng, &t);
+        s.nodes.push(Node::new(0, 0));
+        s.nodes.last_mut().unwrap().zero = 1;
+    }
+    1 "sheet over 65,536 bytes, with a typed list that is 10 or 11" |s, rng| {
+        let t = if rng.percent(50) { outside(rng) } else { beyond(rng) };
+        typed_before(s, rng, &t);
+        s.tail = vec![0; 65_537usize.saturating_sub(bits_of(s))];
+    }
+    // ---- 10
+    10 "typed list outside the grammar" |s, rng| {
+        let t = outside(rng);
+        typed(s, rng, &t);
+    }
+    10 "typed list, one item outside the grammar" |s, rng| {
+        let item = *rng.pick(NO_ITEMS);
+        typed(s, rng, item);
+    }
+    10 "typed list that begins or ends with a comma" |s, rng| {
+        let mut t = any_list(rng, 4);
+        let at = if rng.percent(50) { 0 } else { t.len() };
+        t.insert(at, b',');
+        typed(s, rng, &t);
+    }
+    10 "typed list with a byte that no item has" |s, rng| {
+        let b = not_in(rng, b"0123456789+-.eE, \t\n\r");
+        let mut t = any_list(rng, 4);
+        let at = rng.below(t.len() + 1);
+        t.insert(at, b);
+        typed(s, rng, &t);
+    }
+    10 "typed list not UTF-8" |s, rng| {
+        let bad = *rng.pick(NOT_UTF8);
+        let t = if rng.percent(50) { among(rng, bad) } else { [b"1", bad].concat() };
+        typed(s, rng, &t);
+    }
+    10 "typed list over 1,024 items" |s, rng| {
+        let count = *rng.pick(&[1025, 1026, 1100, 2048]);
+        let t = digits(rng, count);
+        typed(s, rng, &t);
+    }
+    10 "typed list over 1,024 items, some beyond the limits" |s, rng| {
+        let mut t = digits(rng, 1025);
+        t.extend(b" 1e23");
+        typed(s, rng, &t);
+    }
+    10 "10 behind 11 in one typed list" |s, rng| {
+        let mut t = beyond(rng);
+        t.push(b' ');
+        t.extend(outside(rng));
+        typed(s, rng, &t);
+    }
+    10 "11 behind 10 in one typed list" |s, rng| {
+        let mut t = outside(rng);
+        t.push(b' ');
+        t.extend(beyond(rng));
+        typed(s, rng, &t);
+    }
+    10 "10 in a later typed list than 11" |s, rng| {
+        let (first, later) = (beyond(rng), outside(rng));
+        typed_before(s, rng, &first);
+        typed_behind(s, rng, &later);
+    }
+    10 "10 in an earlier typed list than 11" |s, rng| {
+        let (first, later) = (outside(rng), beyond(rng));
+        typed_before(s, rng, &first);
+        typed_behind(s, rng, &later);
+    }
+    10 "10 and a number not finite" |s, rng| {
+        let t = outside(rng);
+        typed_behind(s, rng, &t);
+        if rng.percent(50) { s.dpi = bad32(rng); } else { s.nodes[0].font_size = bad32(rng); }
+    }
+    10 "10 and feImage" |s, rng| {
+        let t = outside(rng);
+        if rng.percent(50) { s.nodes.insert(0, Node::fe(EId::FeImage)); } else { s.nodes.push(Node::fe(EId::FeImage)); }
+        typed_behind(s, rng, &t);
+    }
+    10 "10 and no filter rectangle" |s, rng| {
+        let t = outside(rng);
+        typed(s, rng, &t);
+        s.units[0] = 0;
+        s.lengths[2] = (0, 0);
+    }
+    10 "10 behind the end of the chain" |s, rng| {
+        let t = outside(rng);
+        s.nodes.push(wide(EId::FeTile, 0.0));
+        typed_behind(s, rng, &t);
+    }
+    // ---- 11
+    11 "typed list beyond the limits" |s, rng| {
+        let t = beyond(rng);
+        typed(s, rng, &t);
+    }
+    11 "typed list of more than 15 digits" |s, rng| {
+        let mut item = vec![b'0'; rng.below(5)];
+        item.push(b'1' + rng.below(9) as u8);
+        item.resize(item.len() + rng.within(15, 40) as usize, b'0' + rng.below(10) as u8);
+        // a point anywhere, and the power stays within 22
+        if rng.percent(60) {
+            let decimals = rng.below(item.len() + 1).min(22);
+            item.insert(item.len() - decimals, b'.');
+            if decimals == 0 { item.push(b'0'); }
+        }
+        let t = among(rng, &item);
+        typed(s, rng, &t);
+    }
+    11 "typed list with a power outside −22 to 22" |s, rng| {
+        let decimals = rng.below(30);
+        let power = *rng.pick(&[23, 24, -23, -24, 38, -45, 308, -308, 100_000]);
+        let mut item = rng.below(10).to_string();
+        if decimals > 0 { item = format!("{}.{}", item, "0".repeat(decimals)); }
+        item = format!("{}e{}", item, power + decimals as i64);
+        let t = among(rng, item.as_bytes());
+        typed(s, rng, &t);
+    }
+    11 "11 and a list with a number not finite" |s, rng| {
+        let t = beyond(rng);
+        typed_behind(s, rng, &t);
+        let n = if rng.percent(50) { 0 } else { s.nodes.len() };
+        let list = list_attr(AId::Values, &[0x3f80_0000, bad32(rng)]);
+        s.nodes.insert(n, with(tile(), list));
+    }
+    11 "11 and another number not finite" |s, rng| {
+        let t = beyond(rng);
+        typed_behind(s, rng, &t);
+        if rng.percent(50) { s.view_box[0] = bad32(rng); } else { s.nodes[0].font_size = bad32(rng); }
+    }
+    11 "11 and feImage" |s, rng| {
+        let t = beyond(rng);
+        if rng.percent(50) { s.nodes.insert(0, Node::fe(EId::FeImage)); } else { s.nodes.push(Node::fe(EId::FeImage)); }
+        typed_behind(s, rng, &t);
+    }
+    11 "11 and filter in box units without a box" |s, rng| {
+        let t = beyond(rng);
+        typed(s, rng, &t);
+        s.units[0] = 1;
+        s.has_box = 0;
+        s.object_box = [0; 4];
+    }
+    11 "11 behind the end of the chain" |s, rng| {
+        let t = beyond(rng);
+        s.nodes.push(wide(EId::FeTile, 0.0));
+        typed_behind(s, rng, &t);
+    }
     // ---- 3
+    3 "a number not finite, and typed lists that pass" |s, rng| {
+        let t = any_list(rng, 20);
+        typed_behind(s, rng, &t);
+        s.dpi = bad32(rng);
+    }
     3 "box not finite" |s, rng| {
         if s.has_box == 0 { s.set_box([0.0, 0.0, 1.0, 1.0]); }
         s.object_box[rng.below(4)] = bad32(rng);

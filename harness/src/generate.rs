@@ -4,6 +4,7 @@ use oracle::{AId, EIDS, EId};
 
 use crate::model::{ABSENT, Attr, Node, Sheet, tag};
 use crate::rng::Rng;
+use crate::texts;
 use crate::values::{EDGES, double, le32, number, plain, text};
 
 /// The elements that make a primitive.
@@ -149,6 +150,9 @@ pub fn number_attr(id: AId, n: f32) -> Attr {
 }
 pub fn list_attr(id: AId, bits: &[u32]) -> Attr {
     Attr::new(id as u16, 3, bits.iter().flat_map(|b| b.to_le_bytes()).collect())
+}
+pub fn typed_attr(id: AId, text: &[u8]) -> Attr {
+    Attr::new(id as u16, 7, text.to_vec())
 }
 pub fn length_attr(id: AId, unit: u8, bits: u64) -> Attr {
     let mut v = vec![unit];
@@ -633,6 +637,7 @@ impl Generator<'_> {
                 length_attr(id, unit, bits)
             }
             5 => Attr::new(id as u16, 5, self.rng.next().to_le_bytes()[..4].to_vec()),
+            7 => typed_attr(id, &texts::any_list(self.rng, 6)),
             _ => {
                 let count = self.rng.below(4);
                 let t: Vec<u64> = (0..count).map(|_| double(self.rng)).collect();
@@ -830,10 +835,60 @@ pub fn sheet(rng: &mut Rng) -> Sheet {
         }
         _ => {}
     }
-    // 65,536 bytes and 512 nodes at most: the last nodes go.
+    fit(&mut s);
+    s
+}
+
+/// 65,536 bytes and 512 nodes at most: the last nodes go.
+pub fn fit(s: &mut Sheet) {
     s.nodes.truncate(512);
     while s.bytes().len() > 65_536 {
         s.nodes.pop();
     }
-    s
+}
+
+/// Types lists: each of them with this chance in a hundred. How many numbers a list has stays.
+pub fn type_some(s: &mut Sheet, rng: &mut Rng, percent: usize) {
+    for a in s.nodes.iter_mut().flat_map(|n| &mut n.attrs).filter(|a| a.kind == 3) {
+        if rng.percent(percent) {
+            let numbers: Vec<u32> = a.value.chunks(4).map(|c| u32::from_le_bytes(c.try_into().unwrap())).collect();
+            let mut text = texts::list(rng, &numbers);
+            if rng.percent(1) {
+                // the longest text
+                text.resize(4096, b' ');
+            }
+            *a = Attr::new(a.id, 7, text);
+        }
+    }
+}
+
+/// Puts typed lists on nodes that may have them, read there or not.
+fn more_typed(s: &mut Sheet, rng: &mut Rng) {
+    for n in s.nodes.iter_mut().filter(|n| n.tag != 0) {
+        if rng.percent(20) {
+            let ids: Vec<AId> =
+                oracle::AIDS.iter().copied().filter(|id| oracle::kind_of(n.depth, *id) == Some(3)).collect();
+            n.set(typed_attr(*rng.pick(&ids), &texts::any_list(rng, 12)));
+        }
+    }
+}
+
+/// Types lists of a sheet: one in four, or in some sheets every one, and more of them.
+pub fn type_lists(s: &mut Sheet, rng: &mut Rng) {
+    if rng.percent(12) {
+        type_some(s, rng, 100);
+        more_typed(s, rng);
+    } else {
+        type_some(s, rng, 25);
+    }
+    fit(s);
+}
+
+/// Changes bytes of one typed list, if there is one.
+pub fn scramble(s: &mut Sheet, rng: &mut Rng) {
+    let mut typed: Vec<&mut Attr> = s.nodes.iter_mut().flat_map(|n| &mut n.attrs).filter(|a| a.kind == 7).collect();
+    if !typed.is_empty() {
+        let at = rng.below(typed.len());
+        typed[at].value = texts::scrambled(rng, &typed[at].value);
+    }
 }

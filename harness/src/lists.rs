@@ -11,7 +11,7 @@ use crate::model::Sheet;
 use crate::reader::in_layout;
 use crate::rng::Rng;
 use crate::tally::{KINDS, Tally};
-use crate::{case, corners, generate};
+use crate::{corners, generate, untyped_case};
 
 /// stdin stays below this.
 const FILE: usize = 300_000;
@@ -384,7 +384,7 @@ fn own(f: &mut File, t: &mut Tally, seed: u64) {
     let mut index = 0;
     let mut stored = 0;
     while stored < OWN {
-        let (s, rule, mut rng) = case(seed, index);
+        let (s, rule, mut rng) = untyped_case(seed, index);
         index += 1;
         let bytes = s.bytes();
         let v = oracle::run::sheet(&bytes);

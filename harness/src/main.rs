@@ -4,6 +4,7 @@ mod compare;
 mod corners;
 mod damage;
 mod generate;
+mod hard;
 mod library;
 mod lists;
 mod model;
@@ -16,6 +17,10 @@ mod shrink;
 mod speed;
 mod store;
 mod tally;
+mod texts;
+mod twins;
+mod typed;
+mod typed_corners;
 mod values;
 
 use std::io::{IsTerminal, Write};
@@ -40,8 +45,14 @@ harness lists [FOLDER] [--seed N]
     writes stored lists and which are in the layout: stdin and stdout of the program crate in FOLDER (crates/read).
 harness numbers [FOLDER]
     works out again the answers in stdout of the program crate in FOLDER (crates/worked_numbers); functions and arguments stay.
+harness typed [ITEMS] [--seed N]
+    ITEMS random items (1,000,000), those that are hard to round, and texts of few bytes, as typed lists through the whole call;
+    each number is compared with oracle/src/typed.rs, and that with Rust's own reading; exits 1 if any differs.
+harness twins [SHEETS] [--seed N]
+    SHEETS random sheets (100,000) with typed lists that pass, and their twins with the numbers as kind 3: the library's answers to
+    both are compared; exits 1 if any differ.
 harness speed
-    times the library and the crate's conversion, and prints the first two tables of docs/SPEED.md.
+    times the library and the crate's conversion, and prints the first two tables of docs/SPEED.md and one of typed lists.
 harness real FOLDER [--trace]
     compares and times the sheets of a folder, which real/sheets.py made of SVG files, and prints the third table.
     --trace prints a line for each filter. run.sh takes the folders of SVG files instead, and makes the sheets.
@@ -66,10 +77,28 @@ fn unhex(s: &str) -> Option<Vec<u8>> {
     (0..s.len() / 2).map(|i| u8::from_str_radix(s.get(2 * i..2 * i + 2)?, 16).ok()).collect()
 }
 
+/// Typing takes its random numbers from a place of its own, so that it moves nothing else in a sheet.
+const TYPING: u64 = 1 << 63;
+
 /// A random sheet of a run, and the rule that was broken in it.
 pub fn case(seed: u64, index: u64) -> (Sheet, Option<&'static damage::Rule>, Rng) {
+    let mut typing = Rng::of_case(seed, index | TYPING);
+    let (mut s, rule, rng) = case_of(seed, index, |s| generate::type_lists(s, &mut typing));
+    if rule.is_none() && typing.percent(8) {
+        generate::scramble(&mut s, &mut typing);
+    }
+    (s, rule, rng)
+}
+
+/// The same with no list typed, but by a rule that is about typed lists.
+pub fn untyped_case(seed: u64, index: u64) -> (Sheet, Option<&'static damage::Rule>, Rng) {
+    case_of(seed, index, |_| {})
+}
+
+fn case_of(seed: u64, index: u64, type_lists: impl FnOnce(&mut Sheet)) -> (Sheet, Option<&'static damage::Rule>, Rng) {
     let mut rng = Rng::of_case(seed, index);
     let mut s = generate::sheet(&mut rng);
+    type_lists(&mut s);
     let mut rule = None;
     if rng.percent(30) && s.nodes.len() < 500 && s.bytes().len() < 50_000 {
         let r = rng.pick(damage::RULES);
@@ -354,11 +383,16 @@ fn options() -> Option<Options> {
     Some(o)
 }
 
+/// The number behind the command, or this one.
+fn count_or(o: &Options, usual: u64) -> Option<u64> {
+    match o.words.get(1) {
+        Some(n) => n.replace(',', "").parse().ok(),
+        None => Some(usual),
+    }
+}
+
 fn compare(o: &Options) -> Option<ExitCode> {
-    let count: u64 = match o.words.get(1) {
-        Some(n) => n.replace(',', "").parse().ok()?,
-        None => 1_000_000,
-    };
+    let count = count_or(o, 1_000_000)?;
     let mut d = Driver::new();
     println!("seed {}, sheets {} to {}", o.seed, o.first, o.first + count.saturating_sub(1));
     if count == 1 {
@@ -416,6 +450,8 @@ fn run() -> Option<ExitCode> {
         "store" => store::store(o.words.get(1).map_or("crates/replay", |s| s), o.seed),
         "lists" => lists::lists(o.words.get(1).map_or("crates/read", |s| s), o.seed),
         "numbers" => numbers::numbers(o.words.get(1).map_or("crates/worked_numbers", |s| s)),
+        "typed" => typed::typed(count_or(&o, 1_000_000)?, o.seed),
+        "twins" => twins::twins(count_or(&o, 100_000)?, o.seed),
         "speed" => Some(speed::speed()),
         "real" => real::real(o.words.get(1)?, o.trace),
         "hex" => one(&o),

@@ -171,6 +171,16 @@ impl Sheet {
     }
 }
 
+/// The sheet with every typed list as the numbers that it is read as: kind 3. None: a typed list doesn't pass.
+pub fn twin(s: &Sheet) -> Option<Sheet> {
+    let mut twin = s.clone();
+    for a in twin.nodes.iter_mut().flat_map(|n| &mut n.attrs).filter(|a| a.kind == 7) {
+        let numbers = oracle::typed::read(&a.value).ok()?;
+        *a = Attr { kind: 3, value: numbers.iter().flat_map(|n| n.to_le_bytes()).collect(), ..a.clone() };
+    }
+    Some(twin)
+}
+
 fn number32(bits: u32) -> String {
     format!("{:?}", f32::from_bits(bits))
 }
@@ -202,6 +212,8 @@ fn value_text(a: &Attr) -> String {
         (3, n) => format!("a list of {} bytes", n),
         (4, 9) => length_text(v[0], u64::from_le_bytes(v[1..].try_into().unwrap())),
         (5, 4) => format!("colour {:?}", v),
+        (7, n) if n <= 400 => format!("typed \"{}\"", v.escape_ascii()),
+        (7, n) => format!("typed \"{}\" and so on, {} bytes", v[..100].escape_ascii(), n),
         (6, 27) => v
             .chunks(9)
             .map(|c| match c[0] {

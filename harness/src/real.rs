@@ -6,7 +6,7 @@ use std::process::ExitCode;
 
 use crate::compare::{Call, Room};
 use crate::speed::{Effort, Row, ns, print_machine, row, times};
-use crate::tally::grouped;
+use crate::tally::{NUMBERS, grouped};
 
 const EFFORT: Effort = Effort { samples: 31, sample_ns: 2e5 };
 
@@ -57,7 +57,7 @@ fn print_table(rows: &[Row]) {
 pub fn real(folder: &str, each: bool) -> Option<ExitCode> {
     let all = sheets(Path::new(folder))?;
     let mut room = Room::new();
-    let mut numbers = [0u64; 10];
+    let mut numbers = [0u64; NUMBERS];
     let mut differences = 0;
     let mut accepted = Vec::new();
     for (name, bytes) in &all {

@@ -1,6 +1,6 @@
 //! Makes a failing sheet smaller, part by part, as long as it fails.
 
-use crate::model::{Node, Sheet};
+use crate::model::{Node, Sheet, twin};
 
 pub fn shrink(start: Sheet, fails: &mut dyn FnMut(&Sheet) -> bool) -> Sheet {
     let mut s = Shrinker { best: start, fails, tries: 0 };
@@ -104,6 +104,8 @@ impl Shrinker<'_> {
     }
 
     fn values(&mut self) {
+        // lists as numbers, if what differs isn't in their text
+        self.attempt(|s| *s = twin(s).unwrap_or_else(|| s.clone()));
         for n in 0..self.best.nodes.len() {
             for a in 0..self.best.nodes[n].attrs.len() {
                 self.attempt(|s| s.nodes[n].attrs[a].zero = 0);
@@ -116,7 +118,7 @@ impl Shrinker<'_> {
     fn value(&mut self, n: usize, a: usize) {
         let kind = self.best.nodes[n].attrs[a].kind;
         // shorter, where the kind has no length of its own
-        if kind == 1 || kind == 3 {
+        if matches!(kind, 1 | 3 | 7) {
             let step = if kind == 3 { 4 } else { 1 };
             let mut run = self.best.nodes[n].attrs[a].value.len() / step;
             while run > 0 {
@@ -136,11 +138,14 @@ impl Shrinker<'_> {
             1 => (1, b"a"),
             2 | 3 => (4, &[0, 0, 0x80, 0x3f]),
             5 => (1, &[255]),
+            7 => (1, b"1"),
             _ => return,
         };
         for at in (0..length / step).map(|i| i * step) {
             let zero = vec![0; step];
-            if kind == 1 || !self.attempt(|s| s.nodes[n].attrs[a].value[at..at + step].copy_from_slice(&zero)) {
+            if matches!(kind, 1 | 7)
+                || !self.attempt(|s| s.nodes[n].attrs[a].value[at..at + step].copy_from_slice(&zero))
+            {
                 let now = &self.best.nodes[n].attrs[a].value[at..at + step];
                 if now.iter().any(|b| *b != 0) {
                     self.attempt(|s| s.nodes[n].attrs[a].value[at..at + step].copy_from_slice(ones));

@@ -1,4 +1,5 @@
-//! Times the library and the crate's conversion on the same sheets, from one driver, in turns, and prints the first two tables of docs/SPEED.md.
+//! Times the library and the crate's conversion on the same sheets, from one driver, in turns, and prints the first two tables of docs/SPEED.md; then
+//! the library alone on typed lists and on the same lists as kind 3.
 //!
 //! The library is given the sheet's bytes: it checks them, measures and writes the list. The crate is given its tree, already built,
 //! and makes its `Vec<Primitive>`, which is dropped; once more with the list's bytes written behind it. The output buffers of both are
@@ -11,9 +12,9 @@ use oracle::run::Prepared;
 use oracle::{AId, EId};
 
 use crate::corners::{below, fe, of_longest_list, with};
-use crate::generate::{list_attr, number_attr, text_attr, tries_attr};
+use crate::generate::{list_attr, number_attr, text_attr, tries_attr, typed_attr};
 use crate::library;
-use crate::model::{Attr, Node, Sheet};
+use crate::model::{Attr, Node, Sheet, twin};
 
 /// How many samples are taken of a sheet, and about how long each is, in nanoseconds.
 pub struct Effort {
@@ -303,6 +304,82 @@ fn kinds(n: usize) -> Sheet {
     page((0..n).map(|i| fe(crate::generate::PRIMITIVES[i % 16])).collect())
 }
 
+// ---- typed lists
+
+/// An element that reads a list, with a typed one of so many items.
+fn typed_sheet(id: AId, items: usize, text: &[u8]) -> Sheet {
+    let list = typed_attr(id, text);
+    page(match id {
+        AId::Values => vec![with(fe(EId::FeColorMatrix), [list])],
+        AId::KernelMatrix => {
+            let order = tries_attr(AId::Order, &[(items as f64).sqrt().to_bits()]);
+            vec![with(fe(EId::FeConvolveMatrix), [list, order])]
+        }
+        _ => {
+            let function = with(below(EId::FeFuncR), [text_attr(AId::Type, "table"), list]);
+            vec![fe(EId::FeComponentTransfer), function]
+        }
+    })
+}
+
+/// Times of a sheet with a typed list and of its twin: both accepted, with the same list.
+fn typed_row(id: AId, what: &str, items: usize, text: &[u8]) {
+    let s = typed_sheet(id, items, text);
+    let (typed, twin) = (s.bytes(), twin(&s).expect("a text that passes").bytes());
+    let (mut out, mut other) = (vec![0; 300_000], vec![0; 300_000]);
+    let got = library::convert(&typed, &mut out);
+    assert!(got.number == 0 && got == library::convert(&twin, &mut other) && out == other, "{}: the two differ", what);
+    let t = measure(
+        &EFFORT,
+        &mut [
+            &mut || {
+                black_box(library::convert(black_box(&typed), black_box(&mut out)));
+            },
+            &mut || {
+                black_box(library::convert(black_box(&twin), black_box(&mut other)));
+            },
+        ],
+    );
+    let more = t[0].median - t[1].median;
+    println!(
+        "| {} | {} | {} | {} | {} | {} | {:.1} | {:.2} |",
+        id,
+        what,
+        items,
+        text.len(),
+        spread(t[0]),
+        spread(t[1]),
+        more / items as f64,
+        more / text.len() as f64
+    );
+}
+
+fn typed_rows() {
+    println!(
+        "\nTyped lists and the same lists as kind 3, ns; what typing costs more, for each item and for each byte of text:\n"
+    );
+    println!("| list | item | items | bytes of text | typed, ns | kind 3, ns | more an item, ns | more a byte, ns |");
+    println!("|---|---|---|---|---|---|---|---|");
+    let list = |item: &str, items: usize| vec![item; items].join(" ").into_bytes();
+    for id in [AId::Values, AId::KernelMatrix, AId::TableValues] {
+        for items in [64, 256, 1024] {
+            typed_row(id, "`0.5`", items, &list("0.5", items));
+        }
+    }
+    for items in [60, 120, 240] {
+        typed_row(AId::TableValues, "`1234567890.12345`", items, &list("1234567890.12345", items));
+    }
+    for items in [48, 96, 192] {
+        typed_row(AId::TableValues, "`-123456789012345e-22`", items, &list("-123456789012345e-22", items));
+    }
+    for bytes in [1024, 2048, 4096] {
+        typed_row(AId::TableValues, "zeros and a 1", 1, format!("{:0>bytes$}", 1).as_bytes());
+    }
+    for bytes in [1024, 2048, 4096] {
+        typed_row(AId::TableValues, "spaces and a 1", 1, format!("{:>bytes$}", 1).as_bytes());
+    }
+}
+
 /// What the times were taken on and how.
 pub fn print_machine(effort: &Effort) {
     let version = std::process::Command::new("rustc")
@@ -354,5 +431,6 @@ pub fn speed() -> ExitCode {
             .collect();
         println!("| {} | {} |", name, cells.join(" | "));
     }
+    typed_rows();
     ExitCode::SUCCESS
 }

@@ -12,21 +12,21 @@ use oracle::{AId, EId};
 use crate::compare::Wanted;
 use crate::model::Sheet;
 use crate::rng::Rng;
-use crate::tally::{KINDS, Tally, grouped};
+use crate::tally::{KINDS, NUMBERS, Tally, grouped};
 use crate::values::bits64;
-use crate::{case, corners, damage, generate, records};
+use crate::{case, corners, damage, generate, records, typed_corners};
 
 /// The longest sheet and output that the program has room for.
 const SHEET: usize = 65_537;
 const OUTPUT: usize = 65_536;
 /// The file stays below this.
-const FILE: usize = 1_200_000;
+const FILE: usize = 1_600_000;
 
 #[derive(Default)]
 struct File {
     bytes: Vec<u8>,
     cases: [u64; 3],
-    numbers: [u64; 10],
+    numbers: [u64; NUMBERS],
 }
 
 impl File {
@@ -71,7 +71,7 @@ fn by_rule(f: &mut File, t: &mut Tally) {
     for c in &all {
         groups.entry(c.group).or_default().push(&c.sheet);
     }
-    for group in groups.values() {
+    for (name, group) in &groups {
         // some two hundred of each group, at equal steps
         for s in group.iter().step_by(group.len().div_ceil(200)) {
             let bytes = s.bytes();
@@ -79,7 +79,12 @@ fn by_rule(f: &mut File, t: &mut Tally) {
             // the large ones are picked below
             if bytes.len() + v.answer.as_ref().map_or(0, |l| l.len()) <= 2_000 {
                 t.sheet(s, bytes.len(), &v);
-                f.in_turn(0, &bytes, &v.answer);
+                if name.starts_with("typed: ") {
+                    // every number is seen
+                    f.add(0, &bytes, 64 + v.answer.as_ref().map_or(0, |l| l.len()), &v.answer);
+                } else {
+                    f.in_turn(0, &bytes, &v.answer);
+                }
             }
         }
     }
@@ -93,7 +98,7 @@ fn by_rule(f: &mut File, t: &mut Tally) {
         let order = generate::tries_attr(AId::Order, &[32f64.to_bits()]);
         Sheet::plain(vec![corners::with(corners::fe(EId::FeConvolveMatrix), [list, order])])
     };
-    for s in [
+    let large = [
         corners::of_size(SHEET - 1),
         corners::of_size(SHEET),
         tail,
@@ -104,7 +109,8 @@ fn by_rule(f: &mut File, t: &mut Tally) {
         kernel(1023),
         kernel(1024),
         kernel(1025),
-    ] {
+    ];
+    for s in large.into_iter().chain(typed_corners::long_sheets()) {
         let bytes = s.bytes();
         let v = oracle::run::sheet(&bytes);
         t.sheet(&s, bytes.len(), &v);
@@ -137,21 +143,22 @@ fn narrowing(f: &mut File, seed: u64) {
     }
 }
 
-/// Random sheets with each rule broken: five of each where they are short.
+/// Random sheets with each rule broken: five of each where they are short, one where only its list is long.
 fn broken(f: &mut File, t: &mut Tally, seed: u64) {
     for (i, rule) in damage::RULES.iter().enumerate() {
         let mut index = 0;
         let mut stored = 0;
-        while stored < 5 && index < 500 {
+        while stored < 5 && index < 500 || stored == 0 && index < 1000 {
             let mut rng = Rng::of_case(seed, 1000 * i as u64 + index);
             index += 1;
             let mut s = generate::sheet(&mut rng);
             if s.nodes.len() > 4 {
                 continue;
             }
+            generate::type_lists(&mut s, &mut rng);
             (rule.break_it)(&mut s, &mut rng);
             let bytes = s.bytes();
-            if bytes.len() > 700 {
+            if bytes.len() > if index <= 500 { 700 } else { 5_000 } {
                 continue;
             }
             stored += 1;

@@ -3,9 +3,13 @@
 use std::collections::BTreeMap;
 
 use oracle::run::{Named, Verdict};
+use oracle::typed::{BYTES, read};
 use oracle::{AIDS, kind_of};
 
 use crate::model::Sheet;
+
+/// One more than the highest number.
+pub const NUMBERS: usize = 12;
 
 /// The kinds in the order of their declaration.
 pub const KINDS: [&str; 17] = [
@@ -52,7 +56,7 @@ const ENUMS: [(&str, usize); 16] = [
 pub struct Tally {
     pub sheets: u64,
     pub calls: u64,
-    pub refusals: [u64; 10],
+    pub refusals: [u64; NUMBERS],
     pub kinds: [u64; 17],
     pub enums: [[u64; 16]; 16],
     pub primitives: u64,
@@ -63,23 +67,78 @@ pub struct Tally {
     /// Attributes on nodes of accepted sheets, by depth and place.
     pub attributes: [Vec<u64>; 2],
     /// Rules broken, with the numbers that came of it.
-    pub rules: BTreeMap<&'static str, (u64, [u64; 10])>,
+    pub rules: BTreeMap<&'static str, (u64, [u64; NUMBERS])>,
     pub groups: BTreeMap<&'static str, u64>,
     pub order_product: u64,
     pub displacement_sum: u64,
     pub dy_percent: u64,
     pub octaves_half: u64,
     pub records: u64,
-    pub record_refusals: [u64; 10],
+    pub record_refusals: [u64; NUMBERS],
     pub record_kinds: [u64; 17],
     pub record_codes: [u64; 10],
     pub narrowed: u64,
     pub narrowed_nan: u64,
     pub differences: u64,
     pub lengths: [u64; 5],
+    /// Typed lists in accepted sheets, and in all others.
+    pub typed: [Typed; 2],
+    /// Those in accepted sheets, by depth and place.
+    pub typed_ids: [Vec<u64>; 2],
 }
 
 pub const LENGTHS: [&str; 5] = ["plenty", "exactly full", "one short", "empty", "shorter still"];
+
+/// Typed lists by outcome.
+#[derive(Default)]
+pub struct Typed {
+    pass: u64,
+    empty: u64,
+    items: u64,
+    outside: u64,
+    beyond: u64,
+    too_long: u64,
+    /// The most of those that pass.
+    most_items: usize,
+    most_bytes: usize,
+}
+
+impl Typed {
+    pub fn add(&mut self, text: &[u8]) {
+        if text.len() > BYTES {
+            self.too_long += 1;
+            return;
+        }
+        match read(text) {
+            Err(10) => self.outside += 1,
+            Err(_) => self.beyond += 1,
+            Ok(numbers) => {
+                self.pass += 1;
+                self.empty += u64::from(numbers.is_empty());
+                self.items += numbers.len() as u64;
+                self.most_items = self.most_items.max(numbers.len());
+                self.most_bytes = self.most_bytes.max(text.len());
+            }
+        }
+    }
+}
+
+impl std::fmt::Display for Typed {
+    fn fmt(&self, f: &mut std::fmt::Formatter) -> std::fmt::Result {
+        write!(
+            f,
+            "{} pass (of which empty {}; items {}, at most {} in {} bytes), 10: {}, 11: {}, over 4,096 bytes: {}",
+            grouped(self.pass),
+            grouped(self.empty),
+            grouped(self.items),
+            grouped(self.most_items as u64),
+            grouped(self.most_bytes as u64),
+            grouped(self.outside),
+            grouped(self.beyond),
+            grouped(self.too_long)
+        )
+    }
+}
 
 /// Reads a list, or a Kind by itself, and counts.
 struct Reader<'a, 'b> {
@@ -206,7 +265,8 @@ impl Reader<'_, '_> {
 
 impl Tally {
     pub fn new() -> Tally {
-        Tally { attributes: [vec![0; AIDS.len()], vec![0; AIDS.len()]], ..Default::default() }
+        let ids = || [vec![0; AIDS.len()], vec![0; AIDS.len()]];
+        Tally { attributes: ids(), typed_ids: ids(), ..Default::default() }
     }
 
     fn named(&mut self, v: &Verdict) {
@@ -225,6 +285,9 @@ impl Tally {
         self.sheets += 1;
         self.longest_sheet = self.longest_sheet.max(size);
         self.named(v);
+        for a in s.nodes.iter().flat_map(|n| &n.attrs).filter(|a| a.kind == 7) {
+            self.typed[usize::from(v.answer.is_err())].add(&a.value);
+        }
         let list = match &v.answer {
             Err(n) => {
                 self.refusals[*n as usize] += 1;
@@ -248,6 +311,9 @@ impl Tally {
         for n in &s.nodes {
             for a in &n.attrs {
                 self.attributes[n.depth as usize][a.id as usize] += 1;
+                if a.kind == 7 {
+                    self.typed_ids[n.depth as usize][a.id as usize] += 1;
+                }
             }
         }
     }
@@ -290,12 +356,12 @@ impl Tally {
         println!("numbers, with an output that suffices:");
         for (n, c) in self.refusals.iter().enumerate() {
             match n {
-                7 => println!("  7 {:>12}  (not to be met: every base frequency is finite after 3)", grouped(*c)),
+                7 => println!("   7 {:>12}  (not to be met: every base frequency is finite after 3)", grouped(*c)),
                 9 => println!(
-                    "  9 {:>12}  (the calls with an output one short, empty or shorter still, of accepted sheets)",
+                    "   9 {:>12}  (the calls with an output one short, empty or shorter still, of accepted sheets)",
                     grouped(self.nines())
                 ),
-                _ => println!("  {} {:>12}", n, grouped(*c)),
+                _ => println!("  {:>2} {:>12}", n, grouped(*c)),
             }
         }
         println!("kinds:");
@@ -328,10 +394,11 @@ impl Tally {
             grouped(least.0),
             missing
         );
+        self.print_typed();
         println!("rules broken, how often, and the numbers that came of it:");
         for (name, (count, numbers)) in &self.rules {
             let got: Vec<String> =
-                (0..10).filter(|n| numbers[*n] > 0).map(|n| format!("{}: {}", n, grouped(numbers[n]))).collect();
+                (0..NUMBERS).filter(|n| numbers[*n] > 0).map(|n| format!("{}: {}", n, grouped(numbers[n]))).collect();
             println!("  {:<58} {:>8}  {}", name, grouped(*count), got.join(", "));
         }
         println!("sheets made by rule:");
@@ -362,6 +429,18 @@ impl Tally {
             grouped(self.octaves_half)
         );
         println!("differences that docs/DIFFERENCES.md doesn't name: {}", self.differences);
+    }
+
+    fn print_typed(&self) {
+        println!("typed lists in accepted sheets: {}", self.typed[0]);
+        println!("typed lists in refused sheets: {}", self.typed[1]);
+        let mut ids = Vec::new();
+        for depth in [0, 1] {
+            for id in AIDS.iter().filter(|id| kind_of(depth, **id) == Some(3)) {
+                ids.push(format!("{} {}", id, grouped(self.typed_ids[depth as usize][*id as usize])));
+            }
+        }
+        println!("typed lists in accepted sheets, by id: {}", ids.join(", "));
     }
 
     fn nines(&self) -> u64 {

@@ -83,7 +83,7 @@ pub const NOT_FINITE_64: &[u64] = &[
     0x47f0_0000_0000_0000,
 ];
 
-fn finite32(rng: &mut Rng) -> u32 {
+pub fn finite32(rng: &mut Rng) -> u32 {
     loop {
         let bits = rng.next() as u32;
         if f32::from_bits(bits).is_finite() {

@@ -10,6 +10,7 @@ mod parser;
 pub mod run;
 mod sheet;
 mod tree;
+pub mod typed;
 
 // As in the crate's lib.rs.
 pub(crate) use parser::{Options, f32_bound};

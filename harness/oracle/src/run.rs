@@ -32,6 +32,7 @@ fn spell(v: &Value, id: AId) -> Option<String> {
             }
             s
         }
+        Value::Typed(_) => unreachable!("read before 3"),
         Value::Length(u, n) => spell_length(*u, *n),
         Value::Colour(c) => spell_colour(c),
         Value::Tries(t) => {
@@ -339,7 +340,7 @@ pub struct Prepared {
 }
 
 impl Prepared {
-    /// None: refused by 1 to 4.
+    /// None: refused by 1 to 4, 10 or 11.
     pub fn new(b: &[u8]) -> Option<Prepared> {
         let s = sheet::decode(b).ok()?;
         Some(Prepared { doc: document(&s, &s.nodes), frame: frame(&s) })
