@@ -453,6 +453,23 @@ impl Corners {
         }
     }
 
+    /// Texts that are a made name, or nearly one: as an `in` after 21 made names; as a `result` that the made names behind it may have to skip, beside one with
+    /// a higher number; and as both between made names. Fewer than two hundred, so all of them are stored.
+    fn numbered_names(&mut self) {
+        let unnamed = |n: usize| vec![fe(EId::FeTile); n];
+        for t in numbered() {
+            let reading = with(fe(EId::FeTile), [text_attr(AId::In, &t)]);
+            let called = |t: &str| with(fe(EId::FeTile), [text_attr(AId::Result, t)]);
+            let mut put = |nodes: [Vec<Node>; 3]| self.add("names with a number", Sheet::plain(nodes.concat()));
+            put([unnamed(21), vec![reading.clone()], vec![]]);
+            put([vec![called(&t), called("result30")], unnamed(4), vec![reading.clone()]]);
+            put([unnamed(1), vec![called(&t), reading], unnamed(1)]);
+        }
+        for (_, s) in by_the_hundred() {
+            self.add("names by the hundred", s);
+        }
+    }
+
     fn kernels(&mut self) {
         let kernel = |count: usize| list_attr(AId::KernelMatrix, &vec![bits(1.0); count]);
         let order = |x: f64, y: f64| tries_attr(AId::Order, &[x.to_bits(), y.to_bits()]);
@@ -559,6 +576,41 @@ impl Corners {
     }
 }
 
+/// `result` and a number: small ones, and those next to another length, to 2^32 and to 2^64; then what is nearly such a name. The bytes next to the digits would be
+/// worth 10 or 20.
+fn numbered() -> Vec<String> {
+    let numbers = [0, 1, 2, 3, 4, 9, 10, 11, 1 << 32, 1 << 64].into_iter().flat_map(|n: u128| match n {
+        0..=11 => vec![n],
+        _ => vec![n - 1, n, n + 1, n + 2],
+    });
+    let digits = numbers.chain([999_999_999, 1_000_000_000, 9_999_999_999, 10_000_000_000]).map(|n| n.to_string());
+    let zeros = [2, 3, 9, 10, 11, 20].map(|n| format!("{:0>n$}", 1));
+    let others = [
+        "", "00", "+1", "-1", " 1", "1 ", "1.", "1e0", "0x1", "1a", "/", ":", "1/", "1:", "/1", ":1", "\u{661}", "\0",
+        "1\0",
+    ];
+    let behind = digits.chain(zeros).chain(others.map(String::from)).map(|d| format!("result{}", d));
+    behind.chain(["4", "esult4", "Result4", "resulT4", "1234564", "result4result4"].map(String::from)).collect()
+}
+
+/// Sheets with many made names, each with what it is: unnamed children; the same after explicit names that none of them has to skip, and after ones that the
+/// first of them has to skip; and children that all read one made name.
+pub fn by_the_hundred() -> [(&'static str, Sheet); 4] {
+    let unnamed = |n: usize| vec![fe(EId::FeTile); n];
+    let after = |from: usize| {
+        let explicit =
+            (from..from + 212).map(|k| with(fe(EId::FeTile), [text_attr(AId::Result, &format!("result{}", k))]));
+        explicit.chain(unnamed(300)).collect()
+    };
+    let reading = with(fe(EId::FeTile), [text_attr(AId::In, "result400")]);
+    [
+        ("300 unnamed", Sheet::plain(unnamed(300))),
+        ("300 unnamed after `result1` to `result212`", Sheet::plain(after(1))),
+        ("300 unnamed after `result213` to `result424`", Sheet::plain(after(213))),
+        ("512 that read `result400`", Sheet::plain(vec![reading; 512])),
+    ]
+}
+
 /// A feTile with an attribute, or a feMergeNode below a feMerge.
 pub fn on(depth: u8, a: Attr) -> Sheet {
     Sheet::plain(if depth == 0 {
@@ -579,6 +631,7 @@ pub fn corners() -> Vec<Corner> {
     c.numbers();
     c.words();
     c.naming();
+    c.numbered_names();
     c.kernels();
     c.octaves();
     c.0.append(&mut crate::typed_corners::corners());

@@ -56,6 +56,8 @@ harness speed
 harness real FOLDER [--trace]
     compares and times the sheets of a folder, which real/sheets.py made of SVG files, and prints the third table.
     --trace prints a line for each filter. run.sh takes the folders of SVG files instead, and makes the sheets.
+harness names [N]
+    converts sheet N of those with many made names, once, and says what it is; without N, says how many there are. For spellings.py.
 harness hex HEX [OUTPUT LENGTH]
     one sheet: what the crate's code and the library answer.
 harness show [--seed N] [--first I]
@@ -443,6 +445,20 @@ fn one(o: &Options) -> Option<ExitCode> {
     }
 }
 
+/// One call on a sheet with many made names.
+fn names(o: &Options) -> Option<ExitCode> {
+    let sheets = corners::by_the_hundred();
+    let Some(n) = o.words.get(1) else {
+        println!("{}", sheets.len());
+        return Some(ExitCode::SUCCESS);
+    };
+    let (name, sheet) = sheets.get(n.parse::<usize>().ok()?)?;
+    let got = library::convert(&sheet.bytes(), &mut vec![0; compare::PLENTY]);
+    assert_eq!(got.number, 0, "{} is refused", name);
+    println!("{}", name);
+    Some(ExitCode::SUCCESS)
+}
+
 fn run() -> Option<ExitCode> {
     let o = options()?;
     match o.words[0].as_str() {
@@ -454,6 +470,7 @@ fn run() -> Option<ExitCode> {
         "twins" => twins::twins(count_or(&o, 100_000)?, o.seed),
         "speed" => Some(speed::speed()),
         "real" => real::real(o.words.get(1)?, o.trace),
+        "names" => names(&o),
         "hex" => one(&o),
         "show" => {
             let (s, rule, _) = case(o.seed, o.first);

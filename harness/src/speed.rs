@@ -11,7 +11,7 @@ use std::process::ExitCode;
 use oracle::run::Prepared;
 use oracle::{AId, EId};
 
-use crate::corners::{below, fe, of_longest_list, with};
+use crate::corners::{below, by_the_hundred, fe, of_longest_list, with};
 use crate::generate::{list_attr, number_attr, text_attr, tries_attr, typed_attr};
 use crate::library;
 use crate::model::{Attr, Node, Sheet, twin};
@@ -409,6 +409,8 @@ pub fn speed() -> ExitCode {
         timed("largest: 512 named, all read the first", named_tiles(512)),
         timed("longest list", of_longest_list()),
     ]);
+    println!("\nMany made names:\n");
+    print_rows(&by_the_hundred().map(|(name, s)| timed(name, s)));
     println!("\nGrowth, ns (library \\| crate) and the library's over the crate's, by the number of nodes:\n");
     let sizes = [8, 16, 32, 64, 128, 256, 512];
     println!("| chain | {} |", sizes.map(|n| n.to_string()).join(" | "));

@@ -20,7 +20,7 @@ use crate::{case, corners, damage, generate, records, typed_corners};
 const SHEET: usize = 65_537;
 const OUTPUT: usize = 65_536;
 /// The file stays below this.
-const FILE: usize = 1_600_000;
+const FILE: usize = 1_900_000;
 
 #[derive(Default)]
 struct File {
@@ -110,7 +110,8 @@ fn by_rule(f: &mut File, t: &mut Tally) {
         kernel(1024),
         kernel(1025),
     ];
-    for s in large.into_iter().chain(typed_corners::long_sheets()) {
+    let many_names = corners::by_the_hundred().map(|(_, s)| s);
+    for s in large.into_iter().chain(many_names).chain(typed_corners::long_sheets()) {
         let bytes = s.bytes();
         let v = oracle::run::sheet(&bytes);
         t.sheet(&s, bytes.len(), &v);
