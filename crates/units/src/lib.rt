@@ -1,11 +1,12 @@
 // Lengths in user units: units.rs, the lengths of converter.rs, and `resolve_number` and `convert_units` of paint_server.rs.
 ghost use mathlib.Core.Path.{_≡_};
-ghost use Rattle.units.specs.Lengths.{percentBase, percentOf, convertUnits, convertLength, resolveNumber};
+ghost use Rattle.units.specs.Lengths.{percentBase, percentOf, convertUnits, convertLength, converted, resolveNumber};
 use geom::Size;
 use names::aid;
 use svgtree::Length;
 use svgtree::LengthUnit;
 use svgtree::MaybeLength;
+use svgtree::MaybeNumber;
 use svgtree::MaybeUnits;
 use svgtree::font_size;
 use svgtree::header::dpi;
@@ -64,6 +65,28 @@ pub fn convert_length(length: Length, aid: u16, units: Units, state: State, font
         LengthUnit::Pt => n * dpi / 72.0,
         LengthUnit::Pc => n * dpi / 6.0,
         LengthUnit::Percent => convert_percent(n, units, percent_base(aid, state.view_box)),
+    }
+}
+
+// A length of a node, where it is given.
+pub fn try_convert_length(
+    found: MaybeLength,
+    aid: u16,
+    units: Units,
+    state: State,
+    font_size: f32,
+) -> MaybeNumber
+    ensures { λ r. ⌜ r ≡ converted found aid units state «font_size» ⌝ }
+{
+    match found {
+        MaybeLength::Is(length) => MaybeNumber::Is(convert_length(
+            length,
+            aid,
+            units,
+            state,
+            font_size,
+        )),
+        MaybeLength::No => MaybeNumber::No,
     }
 }
 
