@@ -14,7 +14,8 @@ refusalNumber BadNumber = 3
 refusalNumber Image = 4
 -- "no filter rectangle, or its box is missing"
 refusalNumber NoRegion = 5
--- "a placing makes no rectangle or a radius product isn't finite ..; or, for feDisplacementMap in box units, box width + height isn't finite"
+-- "a placing makes no rectangle", which is the filter rectangle's alone (document 02, [4]), "or a radius product isn't finite ..; or, for feDisplacementMap in
+-- box units, box width + height isn't finite"
 refusalNumber Unrepresentable = 6
 -- "base frequency positive in sign but not finite"
 refusalNumber BadFrequency = 7

@@ -6,12 +6,12 @@ use lib.Dec.{eqb}
 use Rattle.answer.specs.declared.Refusal.{Refusal}
 use Rattle.names.specs.Ids.{AId·Result}
 use Rattle.geom.specs.declared.Rect.{Rect}
+use Rattle.geom.specs.declared.MaybeRect.{MaybeRect}
+use Rattle.geom.specs.declared.MaybeRect.the-variants as rect
 use Rattle.svgtree.specs.Values.{Node}
 use Rattle.svgtree.specs.Readers.{textOf, childNodes}
 use Rattle.child.specs.Child.{Child}
 use Rattle.region.specs.declared.Frame.{Frame}
-use Rattle.subregion.specs.declared.Subregion.{Subregion}
-use Rattle.subregion.specs.declared.Subregion.the-variants as region
 use Rattle.subregion.specs.Subregions.{regionOf}
 use Rattle.fe.specs.ColorInterpolation.{colorInterpolationOf}
 use Rattle.elements.specs.Elements.{ElementKind, made, noPrimitive, kindOf}
@@ -31,11 +31,10 @@ kindStep n r noPrimitive = pass
 kindStep n r (element.refused why) = refused why
 
 -- the region is tried before the kind. The document: a subregion that is no rectangle disables its primitive alone (not certain). The crate: the chain ends
--- before that child, whose tag may be an unsupported one, and the children before it stay
-abbrev pub regionStep : Frame → Node → List Node → Subregion → Step
-regionStep frame n children (region.Is r) = kindStep n r (kindOf frame n children)
-regionStep frame n children region.Ends = end
-regionStep frame n children (region.Refused why) = refused why
+-- before that child, whose tag may be an unsupported one, and the children before it stay. That is no refusal, whatever the units are
+abbrev pub regionStep : Frame → Node → List Node → MaybeRect → Step
+regionStep frame n children (rect.Is r) = kindStep n r (kindOf frame n children)
+regionStep frame n children rect.No = end
 
 -- a node and the nodes after it; a node of depth 1 belongs to the child before it, and one without a tag, which the crate does not have below a filter, is
 -- passed over before all else

@@ -12,10 +12,10 @@ use child::Child;
 use elements::Made;
 use elements::kind_of;
 use fe::color_interpolation::convert_color_interpolation;
+use geom::MaybeRect;
 use geom::Rect;
 use names::aid;
 use region::Frame;
-use subregion::Subregion;
 use subregion::resolve_primitive_region;
 use svgtree::children;
 use svgtree::depth;
@@ -61,9 +61,8 @@ fn region_step(s: &[u8], at: u16, i: u16, frame: Frame) -> Step
     let made = kind_of(s, at, i, n, frame);
     let region = resolve_primitive_region(s, at, frame);
     match region {
-        Subregion::Is(rect) => kind_step(s, at, rect, made),
-        Subregion::Ends => Step::End,
-        Subregion::Refused(why) => Step::Refused(why),
+        MaybeRect::Is(rect) => kind_step(s, at, rect, made),
+        MaybeRect::No => Step::End,
     }
 }
 

@@ -15,12 +15,12 @@ use Rattle.names.specs.Ids as ids
 use Rattle.num.specs.Narrowed.{orZero}
 use Rattle.num.specs.Sign.{nearZero}
 use Rattle.geom.specs.declared.Rect.{Rect}
+use Rattle.geom.specs.declared.MaybeRect.{MaybeRect}
+use Rattle.geom.specs.declared.MaybeRect.the-variants as rect
 use Rattle.svgtree.specs.Values.{Value, absent, textValue, numberValue, numbersValue, lengthValue, colorValue, triesValue, Attribute, Node}
 use Rattle.svgtree.specs.Readers.{numbersIn, valueUnder, textOf, numberOf, numbersOf, childNodes}
 use Rattle.tree.specs.Kinds.{TransferFunction, Identity, ConvolveMatrixData, ConvolveMatrixFields}
 use Rattle.region.specs.declared.Frame.{Frame}
-use Rattle.subregion.specs.declared.Subregion.{Subregion}
-use Rattle.subregion.specs.declared.Subregion.the-variants as region
 use Rattle.subregion.specs.Subregions.{regionOf, scaleOf}
 use Rattle.fe.specs.Attributes.{isWord}
 use Rattle.child.specs.Child.{Child, inOf}
@@ -317,10 +317,9 @@ abbrev pays : List Node → ℕ
 pays ns = 816 * length ns + nodesNumbers ns
 
 module _ (f : Frame) where
-  region-step : (n : Node) (children : List Node) (m : Subregion) → StepLong (paid f n children) (regionStep f n children m)
-  region-step n children (region.Is r) = kind-step (paid f n children) n r (kindOf f n children) (kind-long f n children)
-  region-step n children region.Ends = tt
-  region-step n children (region.Refused why) = tt
+  region-step : (n : Node) (children : List Node) (m : MaybeRect) → StepLong (paid f n children) (regionStep f n children m)
+  region-step n children (rect.Is r) = kind-step (paid f n children) n r (kindOf f n children) (kind-long f n children)
+  region-step n children rect.No = tt
 
   -- the step of a node that is no child of the one before
   abbrev taggedStep : Node → List Node → Step

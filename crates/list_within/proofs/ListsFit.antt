@@ -56,7 +56,7 @@ made-fit f n rest h =
 
 chain-fit : (f : Frame) → SoundFrame f → (ns : List Node) → AcceptedNodes ns → ChainAll ChildFit AnyRefusal (chain f ns)
 chain-fit f p =
-    chain-all ChildFit AnyRefusal f AcceptedNodes KindFit (λ n why e. tt) (made-fit f)
+    chain-all ChildFit AnyRefusal f AcceptedNodes KindFit (made-fit f)
     (λ n rest h r e k s. record { rect = rect-fit r (subregion-fits f n r p e); own = text-of n (h .each .0) AId·Result; kind = s })
     accepted-rest
 

@@ -11,13 +11,13 @@ use lib.ListN.{length}
 use Rattle.answer.specs.declared.Refusal.{Refusal}
 use Rattle.names.specs.Ids.{AId·Result}
 use Rattle.geom.specs.declared.Rect.{Rect}
+use Rattle.geom.specs.declared.MaybeRect.{MaybeRect}
+use Rattle.geom.specs.declared.MaybeRect.the-variants as rect
 use Rattle.svgtree.specs.Values.{Node}
 use Rattle.svgtree.specs.Readers.{textOf, childNodes}
 use Rattle.tree.specs.Input.{Name}
 use Rattle.tree.specs.Kinds.{Kind}
 use Rattle.region.specs.declared.Frame.{Frame}
-use Rattle.subregion.specs.declared.Subregion.{Subregion}
-use Rattle.subregion.specs.declared.Subregion.the-variants as region
 use Rattle.subregion.specs.Subregions.{regionOf}
 use Rattle.fe.specs.ColorInterpolation.{colorInterpolationOf}
 use Rattle.child.specs.Child.{Child}
@@ -86,19 +86,18 @@ module _ (P : Child → Type 0) where
     follow-all (count c) rest h k = put-all c rest h k
 
     -- N is known of the nodes from a node on: of the node's child by its kind (K) and its subregion, and of the nodes behind it
-    module _ (f : Frame) (N : List Node → Type 0) (K : Kind (Option Name) → Type 0) (placing : (n : Node) (why : Refusal) → regionOf f n ≡ region.Refused why → R why)
+    module _ (f : Frame) (N : List Node → Type 0) (K : Kind (Option Name) → Type 0)
         (kind : (n : Node) (rest : List Node) → N (n ∷ rest) → MadeAll K R (kindOf f n (childNodes rest)))
-        (child : (n : Node) (rest : List Node) → N (n ∷ rest) → (r : Rect) → regionOf f n ≡ region.Is r → (k : Kind (Option Name)) → K k → P (childOf n r k))
+        (child : (n : Node) (rest : List Node) → N (n ∷ rest) → (r : Rect) → regionOf f n ≡ rect.Is r → (k : Kind (Option Name)) → K k → P (childOf n r k))
         (behind : (n : Node) (rest : List Node) → N (n ∷ rest) → N rest) where
       kind-step : (n : Node) (r : Rect) (m : ElementKind) → ((k : Kind (Option Name)) → K k → P (childOf n r k)) → MadeAll K R m → StepAll (kindStep n r m)
       kind-step n r (made k) c h = c k h
       kind-step n r noPrimitive c h = tt
       kind-step n r (element.refused why) c h = h
 
-      region-step : (n : Node) (rest : List Node) → N (n ∷ rest) → (m : Subregion) → regionOf f n ≡ m → StepAll (regionStep f n (childNodes rest) m)
-      region-step n rest h (region.Is r) e = kind-step n r (kindOf f n (childNodes rest)) (child n rest h r e) (kind n rest h)
-      region-step n rest h region.Ends e = tt
-      region-step n rest h (region.Refused why) e = placing n why e
+      region-step : (n : Node) (rest : List Node) → N (n ∷ rest) → (m : MaybeRect) → regionOf f n ≡ m → StepAll (regionStep f n (childNodes rest) m)
+      region-step n rest h (rect.Is r) e = kind-step n r (kindOf f n (childNodes rest)) (child n rest h r e) (kind n rest h)
+      region-step n rest h rect.No e = tt
 
       passed-over : (b : Bool) (x : Step) → StepAll x → StepAll (cond b pass x)
       passed-over true x h = tt

@@ -24,7 +24,6 @@ use Rattle.tree.specs.Input.{Name}
 use Rattle.tree.specs.Kinds.{Kind, ConvolveMatrixFields}
 use Rattle.region.specs.declared.Frame.{Frame}
 use Rattle.subregion.specs.Subregions.{scaleOf}
-use Rattle.subregion.proofs.Numbers.{subregion-refusal}
 use Rattle.fe.proofs.Numbers.{ListHolds, numbers-finite, plus-positive}
 use Rattle.num.specs.Numbers.{IsFinite}
 use Rattle.fe.specs.Pairs.{pairOf, pairIn, signsClear, ifPositive}
@@ -144,5 +143,5 @@ AnyChild c = Unit {0}
 pub never-seven : (f : Frame) (ns : List Node) → chain.chain f ns ≡ chain.refused BadFrequency → ⊥
 never-seven f ns e =
     subst (ChainAll AnyChild NotSeven) e
-    (chain-all AnyChild NotSeven f (λ (l : List Node). Unit {0}) AnyKind (λ n why e. six-goes (subregion-refusal f n why e)) (λ n rest h. kind-made f n (childNodes rest)) (λ n rest h r e k s. tt) (λ n rest h. tt) ns tt)
+    (chain-all AnyChild NotSeven f (λ (l : List Node). Unit {0}) AnyKind (λ n rest h. kind-made f n (childNodes rest)) (λ n rest h r e k s. tt) (λ n rest h. tt) ns tt)
     refl

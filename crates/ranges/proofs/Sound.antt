@@ -81,7 +81,7 @@ rect-sound r h = (h .x .1, (h .y .1, (h .width .1, (h .height .1, tt))))
 
 chain-sound : (f : Frame) → SoundFrame f → (ns : List Node) → AcceptedNodes ns → ChainAll ChildSound AnyRefusal (chain f ns)
 chain-sound f p =
-    chain-all ChildSound AnyRefusal f AcceptedNodes KindSound (λ n why e. tt)
+    chain-all ChildSound AnyRefusal f AcceptedNodes KindSound
     (λ n rest h. kind-sound f n (childNodes rest) (scale-positive f p) (flood-ok n (h .each .0)))
     (λ n rest h r e k s. record { rect = rect-sound r (subregion-numbers f n r e); kind = s })
     accepted-rest

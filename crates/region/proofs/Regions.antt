@@ -90,7 +90,7 @@ unfolding filterRectIn
 rect-made h u state = made-size (filterXIn h u state) (filterYIn h u state) (filterWidthIn h u state) (filterHeightIn h u state)
 
 -- ---- the object's bounding box
-no-rect : (P : Rect → Type 0) (q : Rect) → rect.No ≡ rect.Is q → P q
+pub no-rect : (P : Rect → Type 0) (q : Rect) → rect.No ≡ rect.Is q → P q
 no-rect P q e = let z : _≡_ {A = ℕ} 0 1 = cc in absurd (zero-one z)
 
 bounds-made : (b : Option Bounds) → Made (rectOf b)

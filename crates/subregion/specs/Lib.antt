@@ -1,2 +1,4 @@
 pub mod Subregions
 pub mod Means
+pub mod Absent
+pub mod Cases

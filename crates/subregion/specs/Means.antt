@@ -1,12 +1,27 @@
--- What the code's defaults of a child's rectangle stand for. Definitions only.
-use Rattle.num.specs.Constants.{plusZero, one}
+-- What the code's four numbers of a child stand for. Definitions only.
 use Rattle.geom.specs.declared.Rect.{Rect}
+use Rattle.geom.specs.declared.MaybeRect.{MaybeRect}
 use Rattle.geom.specs.Geometry.{widthOf, heightOf}
-use Rattle.units.specs.declared.Units.{Units}
-use Rattle.units.specs.declared.Units.the-variants as units
-use Rattle.subregion.specs.declared.Defaults.{Defaults}
+use Rattle.names.specs.Ids.{AId·X, AId·Y, AId·Width, AId·Height}
+use Rattle.svgtree.specs.Values.{Node}
+use Rattle.region.specs.declared.Frame.{Frame}
+use Rattle.subregion.specs.declared.Given.{Given}
+use Rattle.subregion.specs.Subregions.{givenNumber, rectWithin, cornerInBox, sideInBox}
 
--- what a child takes for an absent x, y, width and height, in the region's units and in those of the box
-abbrev pub defaultsIn : Units → (region : Rect) → Defaults
-defaultsIn units.UserSpaceOnUse region = record { x = region .left; y = region .top; width = widthOf region; height = heightOf region }
-defaultsIn units.ObjectBoundingBox region = record { x = plusZero; y = plusZero; width = one; height = one }
+-- as they stand in the sheet, in primitiveUnits
+abbrev pub givenIn : Frame → Node → Given
+givenIn frame n = record { x = givenNumber frame n AId·X; y = givenNumber frame n AId·Y; width = givenNumber frame n AId·Width; height = givenNumber frame n AId·Height }
+
+-- in user space, where they are fractions of a box
+abbrev pub givenInBox : Given → (box : Rect) → Given
+givenInBox g box =
+    record {
+      x = cornerInBox (g .x) (widthOf box) (box .left);
+      y = cornerInBox (g .y) (heightOf box) (box .top);
+      width = sideInBox (g .width) (widthOf box);
+      height = sideInBox (g .height) (heightOf box);
+    }
+
+-- their rectangle
+abbrev pub rectOfGiven : (region : Rect) → Given → MaybeRect
+rectOfGiven region g = rectWithin region (g .x) (g .y) (g .width) (g .height)

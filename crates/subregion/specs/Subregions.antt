@@ -1,80 +1,73 @@
--- The filter primitive subregion of a child, and the scale of a child's numbers: document 01, "parser/filter.rs". Definitions only.
+-- The filter primitive subregion of a child, and the scale of a child's numbers: document 01, "parser/filter.rs", and for objectBoundingBox units document
+-- 02, [4]. Definitions only.
 use Prim.Native.Nat.{ℕ}
-use mathlib.Core.Bool.{Bool, true, false}
-use lib.Dec.{eqb}
-use lib.Ieee.{Float}
-use Rattle.answer.specs.declared.Refusal.the-variants.{Unrepresentable}
-use Rattle.num.specs.Constants.{plusZero, one}
+use lib.Ieee.{Float, binary32, add, mul}
+use Rattle.num.specs.Constants.{one}
 use Rattle.geom.specs.declared.Rect.{Rect}
 use Rattle.geom.specs.declared.Size.{Size}
 use Rattle.geom.specs.declared.MaybeRect.{MaybeRect}
 use Rattle.geom.specs.declared.MaybeRect.the-variants as rect
-use Rattle.geom.specs.Geometry.{ofSize, placed, widthOf, heightOf, sizeOf}
-use Rattle.names.specs.Ids.{AId·X, AId·Y, AId·Width, AId·Height, EId·FeFlood}
+use Rattle.geom.specs.Geometry.{ofSize, widthOf, heightOf, sizeOf}
+use Rattle.names.specs.Ids.{AId·X, AId·Y, AId·Width, AId·Height}
+use Rattle.svgtree.specs.declared.MaybeNumber.{MaybeNumber}
+use Rattle.svgtree.specs.declared.MaybeNumber.the-variants as maybe-number
 use Rattle.svgtree.specs.Values.{Node}
 use Rattle.svgtree.specs.Readers.{orDefault}
 use Rattle.units.specs.declared.Units.{Units}
 use Rattle.units.specs.declared.Units.the-variants as units
 use Rattle.units.specs.Lengths.{tryConvertLength}
 use Rattle.region.specs.declared.Frame.{Frame}
-use Rattle.subregion.specs.declared.Subregion.{Subregion}
-use Rattle.subregion.specs.declared.Subregion.the-variants as subregion
 
--- ---- the child's rectangle
+-- ---- the rectangle of a child
 
--- an attribute of the child as a number in primitiveUnits, or this default where it is absent
-abbrev pub valueOr : Frame → Node → (aid : ℕ) → (def : Float) → Float
-valueOr frame n aid def = orDefault (tryConvertLength n aid (frame .units) (frame .state)) def
+-- the child's x, y, width or height as a number in primitiveUnits, if it is there and can be read: n percent is n/100 in objectBoundingBox units, and every
+-- other unit is converted as in user space
+abbrev pub givenNumber : Frame → Node → (aid : ℕ) → MaybeNumber
+givenNumber frame n aid = tryConvertLength n aid (frame .units) (frame .state)
 
--- the rectangle of the child's x, y, width and height, if it exists, with these defaults
-unfoldable pub childRect : Frame → Node → (x y width height : Float) → MaybeRect
-childRect frame n x y width height =
-    ofSize (valueOr frame n AId·X x) (valueOr frame n AId·Y y) (valueOr frame n AId·Width width) (valueOr frame n AId·Height height)
+-- the rectangle of these four, if it exists: "an absent one is the filter region's own". The region's width is right - left, so a rectangle of the
+-- region's own four numbers is made anew, and its far edges may differ from the region's by a rounding
+unfoldable pub rectWithin : (region : Rect) → (x y width height : MaybeNumber) → MaybeRect
+rectWithin region x y width height =
+    ofSize (orDefault x (region .left)) (orDefault y (region .top)) (orDefault width (widthOf region)) (orDefault height (heightOf region))
 
--- no rectangle: the chain ends before this child. That is no refusal: what stands before it is kept.
-abbrev pub orEnds : MaybeRect → Subregion
-orEnds (rect.Is r) = subregion.Is r
-orEnds rect.No = subregion.Ends
+-- ---- userSpaceOnUse: the numbers as they are given
 
--- "a placing makes no rectangle": a refusal
-abbrev pub orRefused : MaybeRect → Subregion
-orRefused (rect.Is r) = subregion.Is r
-orRefused rect.No = subregion.Refused Unrepresentable
-
--- ---- userSpaceOnUse: "absent values come from the region"
-
-unfoldable pub userSpaceRegion : Frame → Node → Subregion
+unfoldable pub userSpaceRegion : Frame → Node → MaybeRect
 userSpaceRegion frame n =
-    orEnds (childRect frame n (frame .region .left) (frame .region .top) (widthOf (frame .region)) (heightOf (frame .region)))
+    rectWithin (frame .region) (givenNumber frame n AId·X) (givenNumber frame n AId·Y) (givenNumber frame n AId·Width) (givenNumber frame n AId·Height)
 
--- ---- objectBoundingBox. The document: x, y, width and height are fractions of the object's bounding box, and what is absent comes from the filter
--- region. The crate: so for feFlood alone, with 0, 0, 1, 1 for what is absent; for every other kind it places the filter region in the child's
--- rectangle, as if that rectangle were the bounding box.
+-- ---- objectBoundingBox: the numbers are fractions of the object's bounding box
 
--- "feFlood is placed in the object's box". Without a box the chain ends; but then no child is converted at all (number 8).
-abbrev pub floodIn : (bbox : MaybeRect) (child : Rect) → Subregion
-floodIn (rect.Is b) child = orRefused (placed child b)
-floodIn rect.No child = subregion.Ends
+-- "a given x is x × box width + box x", and y by the box's height and y. The product is rounded, and then the sum
+abbrev pub cornerInBox : (fraction : MaybeNumber) → (boxSide boxCorner : Float) → MaybeNumber
+cornerInBox (maybe-number.Is v) boxSide boxCorner = maybe-number.Is (add binary32 (mul binary32 v boxSide) boxCorner)
+cornerInBox maybe-number.No boxSide boxCorner = maybe-number.No
 
--- "Other kinds place the filter region in the child's rectangle". In the crate feImage goes with feFlood; a sheet with an feImage is refused
--- before (number 4).
-abbrev pub placedChild : (flood : Bool) → Frame → (child : MaybeRect) → Subregion
-placedChild flood frame rect.No = subregion.Ends
-placedChild true frame (rect.Is child) = floodIn (frame .bbox) child
-placedChild false frame (rect.Is child) = orRefused (placed (frame .region) child)
+-- "a given width is width × box width", and the height by the box's height
+abbrev pub sideInBox : (fraction : MaybeNumber) → (boxSide : Float) → MaybeNumber
+sideInBox (maybe-number.Is v) boxSide = maybe-number.Is (mul binary32 v boxSide)
+sideInBox maybe-number.No boxSide = maybe-number.No
 
--- "absent: 0, 0, 1, 1"
-unfoldable pub bboxRegion : Frame → Node → Subregion
-bboxRegion frame n = placedChild (eqb (n .tag) EId·FeFlood) frame (childRect frame n plusZero plusZero one one)
+-- whatever the child's tag is, as in the document. The crate: so for feFlood alone, with 0, 0, 1, 1 for what is absent; for every other kind it places the filter
+-- region in the child's rectangle, and it panics where placing makes no rectangle
+unfoldable pub bboxRegion : Frame → Node → (box : Rect) → MaybeRect
+bboxRegion frame n box =
+    rectWithin (frame .region)
+    (cornerInBox (givenNumber frame n AId·X) (widthOf box) (box .left))
+    (cornerInBox (givenNumber frame n AId·Y) (heightOf box) (box .top))
+    (sideInBox (givenNumber frame n AId·Width) (widthOf box))
+    (sideInBox (givenNumber frame n AId·Height) (heightOf box))
 
--- ---- by primitiveUnits
+-- ---- by primitiveUnits. Box units without a box have no rectangle; but then no child is converted at all (number 8)
 
-abbrev pub byUnits : Units → (userSpace bbox : Subregion) → Subregion
-byUnits units.UserSpaceOnUse userSpace bbox = userSpace
-byUnits units.ObjectBoundingBox userSpace bbox = bbox
+abbrev pub regionBy : Units → (bbox : MaybeRect) → Frame → Node → MaybeRect
+regionBy units.UserSpaceOnUse bbox frame n = userSpaceRegion frame n
+regionBy units.ObjectBoundingBox (rect.Is box) frame n = bboxRegion frame n box
+regionBy units.ObjectBoundingBox rect.No frame n = rect.No
 
-unfoldable pub regionOf : Frame → Node → Subregion
-regionOf frame n = byUnits (frame .units) (userSpaceRegion frame n) (bboxRegion frame n)
+unfoldable pub regionOf : Frame → Node → MaybeRect
+regionOf frame n = regionBy (frame .units) (frame .bbox) frame n
 
 -- ---- what a child's numbers are multiplied by: the size of the object's bounding box in objectBoundingBox units, and else 1 by 1
 

@@ -1,85 +1,32 @@
-// The filter primitive subregion of a child, `resolve_primitive_region` of filter.rs, and the scale of a child's numbers, from its `collect_children`.
+// The filter primitive subregion of a child, in the place of `resolve_primitive_region` of filter.rs, and the scale of a child's numbers, from its
+// `collect_children`.
 ghost use mathlib.Core.Path.{_≡_};
-ghost use lib.Dec.{eqb};
-ghost use Rattle.geom.specs.Geometry.{placed};
-ghost use Rattle.names.specs.Ids.{EId·FeFlood};
 ghost use Rattle.svgtree.specs.Parse.{nodeFrom};
-ghost use Rattle.svgtree.specs.Readers.{orDefault};
-ghost use Rattle.units.specs.Lengths.{converted};
-ghost use Rattle.subregion.specs.Subregions.{childRect, orRefused, floodIn, placedChild, regionOf, sizeIn, scaleOf};
-ghost use Rattle.subregion.specs.Means.{defaultsIn};
-use answer::Refusal;
+ghost use Rattle.subregion.specs.Subregions.{cornerInBox, sideInBox, regionOf, sizeIn, scaleOf};
+ghost use Rattle.subregion.specs.Means.{givenIn, givenInBox, rectOfGiven};
+use fe::or_else;
 use geom::MaybeRect;
 use geom::Rect;
 use geom::Size;
 use names::aid;
-use names::eid;
 use region::Frame;
-use svgtree::MaybeLength;
+use svgtree::MaybeNumber;
 use svgtree::font_size;
 use svgtree::sides::sides_of;
-use svgtree::tag;
-use units::State;
 use units::Units;
-use units::convert_length;
+use units::try_convert_length;
 
-// A child's subregion; or that the chain of children ends before it, since it has no rectangle; or a refusal, where placing made none (the crate
-// panics).
-pub enum Subregion {
-    Is(Rect),
-    Ends,
-    Refused(Refusal),
+// A child's x, y, width and height as numbers, where they are given.
+struct Given {
+    x: MaybeNumber,
+    y: MaybeNumber,
+    width: MaybeNumber,
+    height: MaybeNumber,
 }
 
-// What stands for a child's x, y, width and height where they are absent.
-struct Defaults {
-    x: f32,
-    y: f32,
-    width: f32,
-    height: f32,
-}
-
-fn defaults_of(frame: Frame) -> Defaults
-    ensures { λ r. ⌜ r ≡ defaultsIn (frame .units) (frame .region) ⌝ }
-{
-    let units = frame.units;
-    let region = frame.region;
-    match units {
-        Units::UserSpaceOnUse => Defaults {
-            x: region.x(),
-            y: region.y(),
-            width: region.width(),
-            height: region.height(),
-        },
-        Units::ObjectBoundingBox => Defaults {
-            x: 0.0,
-            y: 0.0,
-            width: 1.0,
-            height: 1.0,
-        },
-    }
-}
-
-// A length of the child in primitiveUnits, or this default where it is absent.
-fn value_or(
-    found: MaybeLength,
-    aid: u16,
-    units: Units,
-    state: State,
-    font_size: f32,
-    def: f32,
-) -> f32
-    ensures { λ r. ⌜ r ≡ orDefault (converted found aid units state «font_size») def ⌝ }
-{
-    match found {
-        MaybeLength::Is(length) => convert_length(length, aid, units, state, font_size),
-        MaybeLength::No => def,
-    }
-}
-
-// The child's rectangle, with these numbers where an attribute is absent.
-fn child_rect(s: &[u8], at: u16, frame: Frame, def: Defaults) -> MaybeRect
-    ensures { λ r. ⌜ r ≡ childRect frame (nodeFrom (now (s .entry)) at) (def .x) (def .y) (def .width) (def .height) ⌝ }
+// In primitiveUnits.
+fn given_of(s: &[u8], at: u16, frame: Frame) -> Given
+    ensures { λ r. ⌜ r ≡ givenIn frame (nodeFrom (now (s .entry)) at) ⌝ }
 {
     let units = frame.units;
     let state = frame.state;
@@ -89,56 +36,83 @@ fn child_rect(s: &[u8], at: u16, frame: Frame, def: Defaults) -> MaybeRect
     let y = sides.y;
     let width = sides.width;
     let height = sides.height;
-    let x = value_or(x, aid::X, units, state, font, def.x);
-    let y = value_or(y, aid::Y, units, state, font, def.y);
-    let width = value_or(width, aid::WIDTH, units, state, font, def.width);
-    let height = value_or(height, aid::HEIGHT, units, state, font, def.height);
-    Rect::from_xywh(x, y, width, height)
-}
-
-fn place(rect: Rect, bbox: Rect) -> Subregion
-    ensures { λ r. ⌜ r ≡ orRefused (placed rect bbox) ⌝ }
-{
-    let placed = rect.bbox_transform(bbox);
-    match placed {
-        MaybeRect::Is(r) => Subregion::Is(r),
-        MaybeRect::No => Subregion::Refused(Refusal::Unrepresentable),
+    Given {
+        x: try_convert_length(x, aid::X, units, state, font),
+        y: try_convert_length(y, aid::Y, units, state, font),
+        width: try_convert_length(width, aid::WIDTH, units, state, font),
+        height: try_convert_length(height, aid::HEIGHT, units, state, font),
     }
 }
 
-fn place_flood(child: Rect, bbox: MaybeRect) -> Subregion
-    ensures { λ r. ⌜ r ≡ floodIn bbox child ⌝ }
+// The product is rounded, and then the sum.
+fn corner_in_box(fraction: MaybeNumber, side: f32, corner: f32) -> MaybeNumber
+    ensures { λ r. ⌜ r ≡ cornerInBox fraction side corner ⌝ }
 {
-    match bbox {
-        MaybeRect::Is(b) => place(child, b),
-        MaybeRect::No => Subregion::Ends,
+    match fraction {
+        MaybeNumber::Is(v) => MaybeNumber::Is(v * side + corner),
+        MaybeNumber::No => MaybeNumber::No,
     }
 }
 
-// A child with this rectangle in objectBoundingBox units.
-fn place_child(s: &[u8], at: u16, frame: Frame, child: Rect) -> Subregion
-    ensures { λ r. ⌜ r ≡ placedChild (eqb (nodeFrom (now (s .entry)) at .tag) EId·FeFlood) frame (MaybeRect.Is child) ⌝ }
+fn side_in_box(fraction: MaybeNumber, side: f32) -> MaybeNumber
+    ensures { λ r. ⌜ r ≡ sideInBox fraction side ⌝ }
 {
-    if tag(s, at) == eid::FE_FLOOD {
-        let bbox = frame.bbox;
-        return place_flood(child, bbox);
+    match fraction {
+        MaybeNumber::Is(v) => MaybeNumber::Is(v * side),
+        MaybeNumber::No => MaybeNumber::No, // the filter region's is taken
     }
-    place(frame.region, child)
 }
 
-pub fn resolve_primitive_region(s: &[u8], at: u16, frame: Frame) -> Subregion
+// Fractions of the box as numbers of user space.
+fn in_box(given: Given, bbox: Rect) -> Given
+    ensures { λ r. ⌜ r ≡ givenInBox given bbox ⌝ }
+{
+    let x = given.x;
+    let y = given.y;
+    let width = given.width;
+    let height = given.height;
+    let size = bbox.size();
+    Given {
+        x: corner_in_box(x, size.width, bbox.left),
+        y: corner_in_box(y, size.height, bbox.top),
+        width: side_in_box(width, size.width),
+        height: side_in_box(height, size.height),
+    }
+}
+
+// What is absent is the filter region's own.
+fn rect_within(region: Rect, given: Given) -> MaybeRect
+    ensures { λ r. ⌜ r ≡ rectOfGiven region given ⌝ }
+{
+    let x = given.x;
+    let y = given.y;
+    let width = given.width;
+    let height = given.height;
+    Rect::from_xywh(
+        or_else(x, region.left),
+        or_else(y, region.top),
+        or_else(width, region.width()),
+        or_else(height, region.height()),
+    )
+}
+
+// The child's subregion: its numbers, in box units by the box, and their rectangle, if there is one.
+pub fn resolve_primitive_region(s: &[u8], at: u16, frame: Frame) -> MaybeRect
     ensures { λ r. ⌜ r ≡ regionOf frame (nodeFrom (now (s .entry)) at) ⌝ }
 {
-    let def = defaults_of(frame);
-    let made = child_rect(s, at, frame, def);
-    let MaybeRect::Is(child) = made else {
-        return Subregion::Ends;
-    };
+    let mut numbers = given_of(s, at, frame);
     let units = frame.units;
+    let bbox = frame.bbox;
     match units {
-        Units::UserSpaceOnUse => Subregion::Is(child),
-        Units::ObjectBoundingBox => place_child(s, at, frame, child),
+        Units::UserSpaceOnUse => {}
+        Units::ObjectBoundingBox => match bbox {
+            MaybeRect::Is(b) => {
+                numbers = in_box(numbers, b);
+            }
+            MaybeRect::No => return MaybeRect::No,
+        },
     }
+    rect_within(frame.region, numbers)
 }
 
 fn bbox_size(bbox: MaybeRect) -> Size

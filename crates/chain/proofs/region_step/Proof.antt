@@ -1,7 +1,7 @@
 -- The region decides; with one, what the element's kind and its children gave does. Assumes nothing.
 use native.Mathlib.Omega.{arith}
 use denote.Ref.{now}
-use mathlib.Core.Path.{ap, _∙_}
+use mathlib.Core.Path.{refl, ap, _∙_}
 use Rattle.svgtree.specs.Parse.{nodeFrom}
 use Rattle.elements.specs.Elements.{kindOf}
 use Rattle.chain.specs.Chain.{kindStep}
@@ -20,10 +20,7 @@ returns c =
     (rw (← c .before .before .before .before .resolve-primitive-region .ensures, rect .1) (c .kind-step .ensures .0 ∙ ap (kindStep n (rect .0 .0)) (made .exact ∙ ap (kindOf (a .frame) n) (below .nodes))), omega (arith, c .kind-step .ensures .1, made .within, below .within, start .pre))
 
 returns-2 : tie.Need-returns-2
-returns-2 c = (rw (← c .before .before .resolve-primitive-region .ensures, c .enum-told .given .1), omega arith)
-
-returns-3 : tie.Need-returns-3
-returns-3 c = (rw (← c .before .before .before .resolve-primitive-region .ensures, c .before .region2 .given .1), omega arith)
+returns-2 c = (rw (← c .before .before .resolve-primitive-region .ensures, c .enum-told .given .1) refl, omega arith)
 
 pub region-step-spec : {M : Type 1} → statement M
 region-step-spec =
@@ -35,7 +32,5 @@ region-step-spec =
     (λ c. search needs)
     (λ c κs. search needs)
     (λ c. search needs)
-    (λ c. search needs)
     returns
-    returns-2
-    returns-3)
+    returns-2)
