@@ -167,20 +167,25 @@ CASES = [
     (5, 'box units for the filter without a box', sheet(tile, units=(BOX, USER))),
     (5, 'default units for the filter without a box', sheet(tile, units=(DEFAULT, DEFAULT))),
     (5, 'no filter region and no node', sheet(region=(0, 0, 0, 1))),
-    # 6: what cannot be placed, and products that are not finite
+    # 6: a filter region that cannot be placed, and products that are not finite
     (6, 'filter region that cannot be placed', sheet(tile, units=(BOX, USER), box=(0, 0, 3e38, 1))),
     (6, 'filter region that cannot be placed, and no node', sheet(units=(BOX, USER), box=(0, 0, 3e38, 1))),
-    (6, 'child that cannot be placed', sheet(tile, node(TILE, length('Width', 3e38)), units=(USER, BOX), box=(0, 0, 1, 1))),
-    (6, 'unsupported child that cannot be placed', sheet(tile, node(UNSUPPORTED, length('Width', 3e38)), units=(USER, BOX), box=(0, 0, 1, 1))),
-    (0, 'the same behind the end of the chain',
-     sheet(tile, node(TILE, length('Width', 0)), node(TILE, length('Width', 3e38)), units=(USER, BOX), box=(0, 0, 1, 1))),
     (6, 'radius product that is not finite', sheet(node(tag('FeMorphology'), numbers('Radius', [2, 1])), **wide)),
     (0, 'radius product that is not taken', sheet(node(tag('FeMorphology'), numbers('Radius', [2, -1])), **wide)),
     (6, 'displacement in a box of no finite width + height', sheet(node(tag('FeDisplacementMap')), units=(USER, BOX), box=(0, 0, 3e38, 3e38))),
+    # no refusal: a child that has no rectangle in the box ends the chain
+    (0, 'child of infinite width in the box', sheet(tile, node(TILE, length('Width', 2)), tile, **wide)),
+    (0, 'unsupported child of infinite width in the box', sheet(tile, node(UNSUPPORTED, length('Width', 2)), tile, **wide)),
+    (0, 'radius product that is not finite, in a child without a rectangle',
+     sheet(tile, node(tag('FeMorphology'), numbers('Radius', [2, 1]), length('Width', 0)), **wide)),
+    (0, 'radius product that is not finite, behind the end of the chain',
+     sheet(tile, node(TILE, length('Width', 2)), node(tag('FeMorphology'), numbers('Radius', [2, 1])), **wide)),
     # 8: no primitive
     (8, 'no node', sheet()),
     (8, 'box units for primitives without a box', sheet(tile, units=(USER, BOX))),
     (8, 'chain that ends at its first child', sheet(node(TILE, length('Width', 0)), tile)),
+    (8, 'first child of infinite width in the box', sheet(node(TILE, length('Width', 2)), tile, **wide)),
+    (8, 'first feFlood of infinite width in the box', sheet(node(FLOOD, length('Width', 2)), tile, **wide)),
     (8, 'unsupported and tagless children alone', sheet(node(UNSUPPORTED), node(0))),
     # 9: the list's size
     (9, 'list of 65,537 bytes', merge_list(196, 328, b'mergers+')),

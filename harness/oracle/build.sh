@@ -33,7 +33,7 @@ cp "$src/tree/filter.rs" "$src/tree/geom.rs" "$gen/tree/"
 # Ours.
 cp "$here/src/svgtree_parse.rs" "$gen/parser/svgtree/parse.rs"
 cp "$here/src/svgtree_text.rs" "$gen/parser/svgtree/text.rs"
-cp "$here/src/lib.rs" "$here/src/run.rs" "$here/src/sheet.rs" "$here/src/encode.rs" "$here/src/octaves.rs" "$here/src/typed.rs" "$gen/"
+cp "$here/src/lib.rs" "$here/src/run.rs" "$here/src/sheet.rs" "$here/src/encode.rs" "$here/src/octaves.rs" "$here/src/subregion.rs" "$here/src/typed.rs" "$gen/"
 
 # The places of EId and AId, listed from names.rs.
 list() {

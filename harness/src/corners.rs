@@ -570,7 +570,7 @@ impl Corners {
         let quarter = [length_attr(AId::X, 0, 0.25f64.to_bits()), length_attr(AId::Width, 0, 0.5f64.to_bits())];
         let mut s = Sheet::plain(vec![with(fe(EId::FeTile), quarter)]);
         s.units = [0, 1];
-        s.set_box([0.0, 0.0, 1.0, 1.0]);
+        s.set_box([0.0, 0.0, 8.0, 8.0]);
         s.set_region([0.0, 0.0, 4.0, 4.0]);
         self.add("the paper's cases", s);
     }
@@ -634,6 +634,7 @@ pub fn corners() -> Vec<Corner> {
     c.numbered_names();
     c.kernels();
     c.octaves();
+    c.0.append(&mut crate::box_corners::corners());
     c.0.append(&mut crate::typed_corners::corners());
     c.0
 }

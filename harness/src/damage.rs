@@ -726,15 +726,6 @@ rules! {
         let nodes = std::mem::take(&mut s.nodes);
         boxed(s, [*rng.pick(&[1, 2]), 0], [0.0, 0.0, 1e-30, 1.0], [0.0, 0.0, 1e-30, 1.0], nodes);
     }
-    6 "a subregion placed beyond f32" |s, rng| {
-        let e = *rng.pick(&[EId::FeTile, EId::FeFlood, EId::G, EId::FeTurbulence, EId::FeMergeNode]);
-        let b = if e == EId::FeFlood { [0.0, 0.0, 1e30, 1.0] } else { [0.0, 0.0, 1.0, 1.0] };
-        boxed(s, [0, 1], b, [0.0, 0.0, 1e30, 1.0], vec![tile(), wide(e, 1e30)]);
-    }
-    6 "a subregion placed to nothing" |s, rng| {
-        let e = *rng.pick(&[EId::FeTile, EId::FeFlood, EId::G, EId::FeTurbulence]);
-        boxed(s, [0, 1], [0.0, 0.0, 1e-30, 1.0], [0.0, 0.0, 1e-30, 1.0], vec![wide(e, 1e-30)]);
-    }
     6 "radius product beyond f32" |s, rng| {
         let radii: &[f32] = [&[2.0, 1.0][..], &[1.0, 2.0], &[1e10], &[0.0, 5.0]][rng.below(4)];
         let list = list_attr(AId::Radius, &radii.iter().map(|n| n.to_bits()).collect::<Vec<_>>());
@@ -760,5 +751,13 @@ rules! {
     8 "the chain ended by the first child" |s, rng| {
         let e = *rng.pick(&[EId::FeTile, EId::G, EId::FeFlood]);
         rebuilt(s, vec![wide(e, *rng.pick(&[0.0, -1.0])), tile()]);
+    }
+    8 "a first subregion in box units beyond f32" |s, rng| {
+        let e = *rng.pick(&[EId::FeTile, EId::FeFlood, EId::G, EId::FeTurbulence, EId::FeMergeNode]);
+        boxed(s, [0, 1], [0.0, 0.0, 1e30, 1.0], [0.0, 0.0, 2.0, 1.0], vec![wide(e, 1e30), tile()]);
+    }
+    8 "a first subregion in box units of nothing" |s, rng| {
+        let e = *rng.pick(&[EId::FeTile, EId::FeFlood, EId::G, EId::FeTurbulence]);
+        boxed(s, [0, 1], [0.0, 0.0, 1e-30, 1.0], [0.0, 0.0, 2.0, 1.0], vec![wide(e, 1e-30), tile()]);
     }
 }

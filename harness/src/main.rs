@@ -1,5 +1,6 @@
 //! The differential harness: the library against usvg's own filter code. ../README.md says how to run it.
 
+mod box_corners;
 mod compare;
 mod corners;
 mod damage;
@@ -59,7 +60,7 @@ harness real FOLDER [--trace]
 harness names [N]
     converts sheet N of those with many made names, once, and says what it is; without N, says how many there are. For spellings.py.
 harness hex HEX [OUTPUT LENGTH]
-    one sheet: what the crate's code and the library answer.
+    one sheet: what is wanted, by the crate or by name, and what the library answers.
 harness show [--seed N] [--first I]
     prints the sheet that a seed and an index make.
 ";
@@ -423,8 +424,8 @@ fn one(o: &Options) -> Option<ExitCode> {
     let bytes = unhex(o.words.get(1)?)?;
     let v = oracle::run::sheet(&bytes);
     match &v.answer {
-        Ok(list) => println!("the crate: 0, {} bytes\n{}", list.len(), hex(list)),
-        Err(n) => println!("the crate: {}", n),
+        Ok(list) => println!("wanted: 0, {} bytes\n{}", list.len(), hex(list)),
+        Err(n) => println!("wanted: {}", n),
     }
     for n in &v.named {
         println!("(named difference: {:?})", n);

@@ -4,6 +4,8 @@
 use std::path::Path;
 use std::process::ExitCode;
 
+use oracle::run::{Named, Verdict};
+
 use crate::compare::{Call, Room};
 use crate::speed::{Effort, Row, ns, print_machine, row, times};
 use crate::tally::{NUMBERS, grouped};
@@ -23,9 +25,10 @@ fn sheets(folder: &Path) -> Option<Vec<(String, Vec<u8>)>> {
     Some(found)
 }
 
-/// The number that both sides answer with room to spare, or None and a printed line where they differ in any of four calls.
-fn compared(room: &mut Room, name: &str, bytes: &[u8]) -> Option<u8> {
-    let wanted = oracle::run::sheet(bytes).answer;
+/// The number that is wanted with room to spare, and whether the crate answers the same; or None and a printed line where the library differs in any of
+/// four calls.
+fn compared(room: &mut Room, name: &str, bytes: &[u8]) -> Option<(u8, bool)> {
+    let Verdict { answer: wanted, named } = oracle::run::sheet(bytes);
     let n = wanted.as_ref().map_or(0, Vec::len);
     for length in [n + 64, n, n.saturating_sub(1), 0] {
         if let Some(what) = room.check(Call::Sheet, bytes, length, &wanted, length).flatten() {
@@ -33,7 +36,7 @@ fn compared(room: &mut Room, name: &str, bytes: &[u8]) -> Option<u8> {
             return None;
         }
     }
-    Some(wanted.err().unwrap_or(0))
+    Some((wanted.err().unwrap_or(0), named.iter().all(|n| *n == Named::BoxUnits)))
 }
 
 fn print_table(rows: &[Row]) {
@@ -60,20 +63,24 @@ pub fn real(folder: &str, each: bool) -> Option<ExitCode> {
     let mut numbers = [0u64; NUMBERS];
     let mut differences = 0;
     let mut accepted = Vec::new();
+    let mut not_timed = 0;
     for (name, bytes) in &all {
-        let Some(n) = compared(&mut room, name, bytes) else {
+        let Some((n, as_the_crate)) = compared(&mut room, name, bytes) else {
             differences += 1;
             continue;
         };
         numbers[n as usize] += 1;
-        if n == 0 {
-            accepted.push((name, bytes));
+        match (n, as_the_crate) {
+            (0, true) => accepted.push((name, bytes)),
+            (0, false) => not_timed += 1,
+            _ => {}
         }
     }
     println!("{} filters, {} differences; by the answer's number:", grouped(all.len() as u64), differences);
     for (n, many) in numbers.iter().enumerate().filter(|(_, many)| **many > 0) {
         println!("    {}: {}", n, many);
     }
+    println!("accepted with another list than the crate's own, and so not timed: {}", not_timed);
     if differences > 0 {
         return Some(ExitCode::FAILURE);
     }

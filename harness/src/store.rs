@@ -20,7 +20,7 @@ use crate::{case, corners, damage, generate, records, typed_corners};
 const SHEET: usize = 65_537;
 const OUTPUT: usize = 65_536;
 /// The file stays below this.
-const FILE: usize = 1_900_000;
+const FILE: usize = 2_300_000;
 
 #[derive(Default)]
 struct File {

@@ -73,6 +73,8 @@ pub struct Tally {
     pub displacement_sum: u64,
     pub dy_percent: u64,
     pub octaves_half: u64,
+    pub box_units: u64,
+    pub box_units_otherwise: u64,
     pub records: u64,
     pub record_refusals: [u64; NUMBERS],
     pub record_kinds: [u64; 17],
@@ -276,6 +278,8 @@ impl Tally {
                 Named::DisplacementSum => self.displacement_sum += 1,
                 Named::DyPercent => self.dy_percent += 1,
                 Named::OctavesHalf => self.octaves_half += 1,
+                Named::BoxUnits => self.box_units += 1,
+                Named::BoxUnitsOtherwise => self.box_units_otherwise += 1,
             }
         }
     }
@@ -427,6 +431,11 @@ impl Tally {
             grouped(self.displacement_sum),
             grouped(self.dy_percent),
             grouped(self.octaves_half)
+        );
+        println!(
+            "  primitives in box units, held to document 02 {}, of which the crate answers otherwise {}",
+            grouped(self.box_units),
+            grouped(self.box_units_otherwise)
         );
         println!("differences that docs/DIFFERENCES.md doesn't name: {}", self.differences);
     }

@@ -9,6 +9,7 @@ pub mod octaves;
 mod parser;
 pub mod run;
 mod sheet;
+mod subregion;
 mod tree;
 pub mod typed;
 

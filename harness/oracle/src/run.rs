@@ -13,6 +13,7 @@ use crate::parser::converter::{Cache, State};
 use crate::parser::filter::{convert, create_dummy_primitive};
 use crate::parser::svgtree::{AId, Document, EId};
 use crate::sheet::{self, Node, Sheet, Value};
+use crate::subregion::{self, Edges};
 use crate::{NonZeroRect, Options};
 
 /// The private spelling of a value (see stand-ins/svgtypes.rs). None: leave the
@@ -109,7 +110,8 @@ pub fn in_crate() -> bool {
 }
 
 enum Outcome {
-    Made(Vec<Primitive>),
+    /// The filter region and the primitives.
+    Made(NonZeroRect, Vec<Primitive>),
     /// The crate gave an error; its warnings.
     Error(Vec<String>),
     Panic,
@@ -170,7 +172,7 @@ fn call(doc: &Document<'static>, frame: &Frame, value: FilterValue<'static>) -> 
         Ok(Err(())) => Outcome::Error(warnings),
         Ok(Ok(filters)) => {
             assert_eq!(filters.len(), 1);
-            Outcome::Made(filters[0].primitives.clone())
+            Outcome::Made(filters[0].rect, filters[0].primitives.clone())
         }
     }
 }
@@ -216,7 +218,7 @@ fn refusal_of_panic(s: &Sheet) -> u8 {
     if lo == 0 {
         return 6; // Placing the filter rectangle.
     }
-    if let Outcome::Made(made) = convert_sheet(s, &s.nodes[..end(lo - 1)]) {
+    if let Outcome::Made(_, made) = convert_sheet(s, &s.nodes[..end(lo - 1)]) {
         if bad_displacement(s, &made) {
             return 6;
         }
@@ -244,6 +246,10 @@ pub enum Named {
     DyPercent,
     /// numOctaves ends in exactly a half: the crate rounds it away from zero, and the even neighbour is asked for.
     OctavesHalf,
+    /// Primitives in box units: subregions and the chain's end are those of subregion.rs.
+    BoxUnits,
+    /// Of these, where the crate's own answer is another one.
+    BoxUnitsOtherwise,
 }
 
 /// The list (or Kind) at its full length, or the number of the refusal; and where that is not the crate's own answer, each place once.
@@ -300,37 +306,147 @@ fn even_octaves(s: &Sheet, made: &mut [Primitive]) -> bool {
     found
 }
 
+/// Refusal 5 or 8, by the crate's own words for "no filter rectangle" and "its box is missing"; any other error is a filter without primitives.
+fn refusal_of_error(warnings: &[String]) -> u8 {
+    let five = warnings.iter().any(|w| {
+        w == "Filter 'f' has an invalid region. Skipped." || w == "Filters on zero-sized shapes are not allowed."
+    });
+    if five { 5 } else { 8 }
+}
+
+/// What the crate makes of a sheet, with the other answers that are asked for in its place; subregions are the crate's.
+fn primitives(s: &Sheet, named: &mut Vec<Named>) -> Result<(NonZeroRect, Vec<Primitive>), u8> {
+    let (region, mut made) = match convert_sheet(s, &s.nodes) {
+        Outcome::Panic => return Err(refusal_of_panic(s)),
+        Outcome::Error(warnings) => return Err(refusal_of_error(&warnings)),
+        Outcome::Made(region, made) => (region, made),
+    };
+    if bad_displacement(s, &made) {
+        named.push(Named::DisplacementSum);
+        return Err(6);
+    }
+    if exact_orders(&mut made) {
+        named.push(Named::OrderProduct);
+    }
+    if even_octaves(s, &mut made) {
+        named.push(Named::OctavesHalf);
+    }
+    Ok((region, made))
+}
+
+fn edges(r: NonZeroRect) -> Edges {
+    Edges { left: r.left(), top: r.top(), right: r.right(), bottom: r.bottom() }
+}
+
+/// Whether the crate makes a primitive of an element.
+fn makes_primitive(n: &Node) -> bool {
+    use EId::*;
+    matches!(
+        n.tag,
+        Some(
+            FeBlend
+                | FeColorMatrix
+                | FeComponentTransfer
+                | FeComposite
+                | FeConvolveMatrix
+                | FeDiffuseLighting
+                | FeDisplacementMap
+                | FeDropShadow
+                | FeFlood
+                | FeGaussianBlur
+                | FeMerge
+                | FeMorphology
+                | FeOffset
+                | FeSpecularLighting
+                | FeTile
+                | FeTurbulence
+        )
+    )
+}
+
+/// The subregions of the primitives, by subregion.rs.
+fn subregions(chain: &[(&Node, Edges)]) -> Vec<Edges> {
+    chain.iter().filter(|(n, _)| makes_primitive(n)).map(|(_, e)| *e).collect()
+}
+
+/// A sheet without primitives in box units: the crate's answer. Its subregions must be those of subregion.rs.
+fn in_user_space(s: &Sheet, named: &mut Vec<Named>) -> Result<Vec<Primitive>, u8> {
+    let (region, made) = primitives(s, named)?;
+    let (_, chain) = subregion::chain(s, edges(region));
+    let rects: Vec<Edges> = made.iter().map(|p| edges(p.rect)).collect();
+    assert_eq!(rects, subregions(&chain), "subregions in user space");
+    Ok(made)
+}
+
+/// The filter region, or 5 or 6: the crate's own, with one child that it places for certain.
+fn filter_region(s: &Sheet) -> Result<Edges, u8> {
+    let tile = Node { depth: 0, tag: Some(EId::FeTile), font_size: 0.0, attrs: unit_square(1.0, 1.0) };
+    match convert_sheet(&Sheet { primitive_units: 0, ..s.clone() }, &[tile]) {
+        Outcome::Panic => Err(6),
+        Outcome::Error(warnings) => Err(refusal_of_error(&warnings)),
+        Outcome::Made(region, _) => Ok(edges(region)),
+    }
+}
+
+fn unit_square(width: f64, height: f64) -> Vec<(AId, Value)> {
+    let of = |id, n| (id, Value::Length(0, n));
+    vec![of(AId::X, 0.0), of(AId::Y, 0.0), of(AId::Width, width), of(AId::Height, height)]
+}
+
+/// The same children with subregions that the crate makes for certain. It places feFlood in the box: all of it, or a half where its far edge is
+/// beyond f32.
+fn placed_for_certain(s: &Sheet, nodes: usize) -> Sheet {
+    let [x, y, width, height] = Edges::new(s.box_.unwrap()).unwrap().numbers();
+    let parts = [[1.0, 1.0], [0.5, 1.0], [1.0, 0.5], [0.5, 0.5]];
+    let [w, h] = parts.into_iter().find(|[w, h]| Edges::new([x, y, w * width, h * height]).is_some()).unwrap();
+    let mut s = s.clone();
+    s.filter_units = 0;
+    s.lengths = [Some((0, 0.0)), Some((0, 0.0)), Some((0, 1.0)), Some((0, 1.0))];
+    s.nodes.truncate(nodes);
+    for n in s.nodes.iter_mut().filter(|n| n.depth == 0 && n.tag.is_some()) {
+        n.attrs.retain(|(id, _)| !matches!(id, AId::X | AId::Y | AId::Width | AId::Height));
+        n.attrs.extend(unit_square(w.into(), h.into()));
+    }
+    s
+}
+
+/// A sheet with primitives in box units: subregions and the chain's end by subregion.rs, kinds, names and inputs by the crate.
+fn in_box_units(s: &Sheet, named: &mut Vec<Named>) -> Result<Vec<Primitive>, u8> {
+    let region = filter_region(s)?;
+    if s.box_.is_none() {
+        return Err(8);
+    }
+    named.push(Named::BoxUnits);
+    let (nodes, chain) = subregion::chain(s, region);
+    let (_, mut made) = primitives(&placed_for_certain(s, nodes), named)?;
+    let rects = subregions(&chain);
+    assert_eq!(made.len(), rects.len());
+    for (p, e) in made.iter_mut().zip(rects) {
+        p.rect = NonZeroRect::from_ltrb(e.left, e.top, e.right, e.bottom).expect("a rectangle");
+    }
+    Ok(made)
+}
+
+fn encoded(made: Result<Vec<Primitive>, u8>) -> Result<Vec<u8>, u8> {
+    let mut list = Vec::new();
+    encode::list(&mut list, &made?);
+    Ok(list)
+}
+
 pub fn sheet(b: &[u8]) -> Verdict {
     let s = match sheet::decode(b) {
         Ok(s) => s,
         Err(number) => return plain(Err(number)),
     };
-    let mut made = match convert_sheet(&s, &s.nodes) {
-        Outcome::Panic => return plain(Err(refusal_of_panic(&s))),
-        Outcome::Error(warnings) => {
-            // The crate's own words for "no filter rectangle" and "its box is
-            // missing"; any other error is a filter without primitives.
-            let five = warnings.iter().any(|w| {
-                w == "Filter 'f' has an invalid region. Skipped."
-                    || w == "Filters on zero-sized shapes are not allowed."
-            });
-            return plain(Err(if five { 5 } else { 8 }));
-        }
-        Outcome::Made(made) => made,
-    };
-    if bad_displacement(&s, &made) {
-        return Verdict { answer: Err(6), named: vec![Named::DisplacementSum] };
-    }
     let mut named = Vec::new();
-    if exact_orders(&mut made) {
-        named.push(Named::OrderProduct);
+    if s.primitive_units != 1 {
+        return Verdict { answer: encoded(in_user_space(&s, &mut named)), named };
     }
-    if even_octaves(&s, &mut made) {
-        named.push(Named::OctavesHalf);
+    let answer = encoded(in_box_units(&s, &mut named));
+    if encoded(primitives(&s, &mut Vec::new()).map(|(_, made)| made)) != answer {
+        named.push(Named::BoxUnitsOtherwise);
     }
-    let mut list = Vec::new();
-    encode::list(&mut list, &made);
-    Verdict { answer: Ok(list), named }
+    Verdict { answer, named }
 }
 
 /// A sheet whose tree is built: what the crate's conversion alone is timed on.
@@ -444,7 +560,7 @@ fn function_answer(b: &[u8]) -> Result<Vec<u8>, u8> {
     // height, so the view box is made square.
     let unit_box = NonZeroRect::from_xywh(0.0, 0.0, 1.0, 1.0);
     let kind = match call(&doc, &Frame::new([width, width], dpi, unit_box), value) {
-        Outcome::Made(made) => made[0].kind.clone(),
+        Outcome::Made(_, made) => made[0].kind.clone(),
         _ => unreachable!("a function always gives a kind"),
     };
     let mut out = Vec::new();
