@@ -37,8 +37,8 @@ extern "C" {
 /* The numbers of an answer. They are tested in this order, and the first whose cause holds is given:
  *
  *   - 1, 2, 10, 11, 3, 4, 5, each over the whole sheet, used or not;
- *   - 6 for placing the filter region;
- *   - 8 where the primitives are in box units and there is no box. No child is looked at then, so a child that would give 6 does not;
+ *   - 6 for placing the filter rectangle;
+ *   - 8 where the primitives are in box units and there is no box. No child is looked at then;
  *   - the first 6 or 7 that a child meets, in child order, up to the child that ends the chain;
  *   - 8 where no child makes a primitive;
  *   - 9. */
@@ -50,8 +50,8 @@ enum zatongae_number {
                                     a view box size equal to the largest f32; a font size below 0; a flood-opacity outside 0..1, or -0 */
     ZATONGAE_IMAGE = 4,          /* feImage as a child of the filter */
     ZATONGAE_NO_REGION = 5,      /* no filter region: not a rectangle, or in box units without a box */
-    ZATONGAE_NOT_PLACED = 6,     /* placing the filter region or a child makes no rectangle; a radius product is not finite; or, for feDisplacementMap in
-                                    box units, box width + height is not finite */
+    ZATONGAE_NOT_PLACED = 6,     /* placing the filter rectangle makes no rectangle; a radius product is not finite; or, for feDisplacementMap in box units,
+                                    box width + height is not finite. A child whose subregion is no rectangle ends the list before it, with no refusal */
     ZATONGAE_BASE_FREQUENCY = 7, /* a base frequency positive in sign but not finite. No call answers it, since 3 comes before: that is proved */
     ZATONGAE_NO_PRIMITIVE = 8,   /* no child makes a primitive, or primitives in box units have no box */
     ZATONGAE_NO_ROOM = 9,        /* the output is shorter than the list */
@@ -75,7 +75,7 @@ struct zatongae_answer {
  *
  * Any other number: length is 0 and every byte of out is as it was.
  *
- * Stack: at most 9,208 bytes, measured on 6,383 sheets, every kind of child and every number but 7 among them. */
+ * Stack: at most 9,192 bytes, measured on 7,864 sheets, every kind of child and every number but 7 among them. */
 struct zatongae_answer zatongae_convert(const uint8_t *sheet, size_t sheet_len, uint8_t *out, size_t out_len);
 
 /* The bits of an f64 to the bits of the nearest f32, ties to even; the way in which every f64 of a sheet is taken. Too large a number gives the infinity of
