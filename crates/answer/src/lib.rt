@@ -1,9 +1,11 @@
 // What a call answers: the refusals of document 01's table and those of document 02, one case for each number, and the answer's two numbers.
+#![tactic(auto)]
+
 ghost use Rattle.std.specs.Prelude.{◌≡◌};
 ghost use Rattle.answer.specs.Refusals.{refusal_number};
 
 // Why nothing is given. `refusal_number` of specs/ gives the table's number of each.
-#[derive(Drop)]
+#[derive(Clone, Copy)]
 pub enum Refusal {
     TooLarge,
     Malformed,
@@ -19,7 +21,7 @@ pub enum Refusal {
 }
 
 // Whether a sheet, or a function record, passes the tests of its bytes.
-#[derive(Drop)]
+#[derive(Clone, Copy)]
 pub enum Checked {
     Passed,
     Refused(Refusal),
@@ -27,7 +29,7 @@ pub enum Checked {
 
 // 0 and the length of what was written, or a refusal's number and 0.
 #[repr(C)]
-#[derive(Drop)]
+#[derive(Clone, Copy)]
 pub struct Answer {
     pub number: u32,
     pub length: usize,

@@ -1,6 +1,8 @@
 // Reads a sheet from standard input and prints its list in lower-case hex and a newline, or the number of the refusal in decimal and a newline.
+#![tactic(auto)]
+
 use bits::u32_to_u64;
-use hex::put_hex_line;
+use hex_digits::put_hex_line;
 use libc::{STDIN_FILENO, STDOUT_FILENO};
 use zatongae::zatongae_convert;
 

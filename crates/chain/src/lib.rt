@@ -1,4 +1,6 @@
 // A filter's children: each to its subregion and its kind, and the next child that counts.
+#![tactic(auto)]
+
 ghost use Rattle.std.specs.Prelude.{◌≡◌, ◌≤◌, ◌<◌};
 ghost use Rattle.svgtree.specs.Parse.{count_of, offset_of, node_from};
 ghost use Rattle.svgtree.specs.Means.{children_of};
@@ -19,7 +21,7 @@ use svgtree::nodes::node_count;
 use svgtree::{children, depth, node_offset, tag, text_of};
 
 // What a node does to the chain of children.
-#[derive(Drop)]
+#[derive(Clone, Copy)]
 pub enum Step {
     Pass,
     End,
@@ -76,7 +78,7 @@ pub fn step_of(s: &[u8], i: u16, frame: Frame) -> Step
 }
 
 // The next child that counts, with its node's number, or how the chain ends.
-#[derive(Drop)]
+#[derive(Clone, Copy)]
 pub enum Next {
     End,
     Refused(Refusal),

@@ -1,100 +1,102 @@
 // A filter's child as it is read: its subregion, its own result, and its kind with the inputs as they stand in the sheet. Names and references are
 // worked out later, from the children that count.
+#![tactic(auto)]
+
 use bits::MaybeText;
 use geom::Rect;
 use tree::{BlendMode, ColorInterpolation, ColorMatrixKind, CompositeOperator};
 
 // The kinds of tree/filter.rs: the inputs, each a text or its absence, and the other fields.
 
-#[derive(Drop)]
+#[derive(Clone, Copy)]
 pub struct Blend {
     pub input1: MaybeText,
     pub input2: MaybeText,
     pub mode: BlendMode,
 }
 
-#[derive(Drop)]
+#[derive(Clone, Copy)]
 pub struct ColorMatrix {
     pub input: MaybeText,
     pub kind: ColorMatrixKind,
 }
 
-#[derive(Drop)]
+#[derive(Clone, Copy)]
 pub struct ComponentTransfer {
     pub input: MaybeText,
     pub fields: tree::ComponentTransfer,
 }
 
-#[derive(Drop)]
+#[derive(Clone, Copy)]
 pub struct Composite {
     pub input1: MaybeText,
     pub input2: MaybeText,
     pub operator: CompositeOperator,
 }
 
-#[derive(Drop)]
+#[derive(Clone, Copy)]
 pub struct ConvolveMatrix {
     pub input: MaybeText,
     pub fields: tree::ConvolveMatrix,
 }
 
-#[derive(Drop)]
+#[derive(Clone, Copy)]
 pub struct DiffuseLighting {
     pub input: MaybeText,
     pub fields: tree::DiffuseLighting,
 }
 
-#[derive(Drop)]
+#[derive(Clone, Copy)]
 pub struct DisplacementMap {
     pub input1: MaybeText,
     pub input2: MaybeText,
     pub fields: tree::DisplacementMap,
 }
 
-#[derive(Drop)]
+#[derive(Clone, Copy)]
 pub struct DropShadow {
     pub input: MaybeText,
     pub fields: tree::DropShadow,
 }
 
-#[derive(Drop)]
+#[derive(Clone, Copy)]
 pub struct GaussianBlur {
     pub input: MaybeText,
     pub fields: tree::GaussianBlur,
 }
 
 // The inputs are those of `count` nodes from node number `first` on.
-#[derive(Drop)]
+#[derive(Clone, Copy)]
 pub struct Merge {
     pub first: u16,
     pub count: u16,
 }
 
-#[derive(Drop)]
+#[derive(Clone, Copy)]
 pub struct Morphology {
     pub input: MaybeText,
     pub fields: tree::Morphology,
 }
 
-#[derive(Drop)]
+#[derive(Clone, Copy)]
 pub struct Offset {
     pub input: MaybeText,
     pub fields: tree::Offset,
 }
 
-#[derive(Drop)]
+#[derive(Clone, Copy)]
 pub struct SpecularLighting {
     pub input: MaybeText,
     pub fields: tree::SpecularLighting,
 }
 
-#[derive(Drop)]
+#[derive(Clone, Copy)]
 pub struct Tile {
     pub input: MaybeText,
 }
 
 // A sheet makes no Image.
-#[derive(Drop)]
+#[derive(Clone, Copy)]
 pub enum Kind {
     Blend(Blend),
     ColorMatrix(ColorMatrix),
@@ -115,7 +117,7 @@ pub enum Kind {
 }
 
 // The kind stands where nothing is left open before it: a copy of it then takes as many bytes at a time as the processor can hand on.
-#[derive(Drop)]
+#[derive(Clone, Copy)]
 pub struct Child {
     pub rect: Rect,
     pub kind: Kind,

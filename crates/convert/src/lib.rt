@@ -1,5 +1,7 @@
 // The children of a sheet to the list of their filter primitives, in any frame: `collect_children` of parser/filter.rs. Each child is read, named and
 // measured; then the list is written, if it fits.
+#![tactic(auto)]
+
 ghost use Rattle.std.specs.Prelude.{◌≡◌, ◌≤◌, length};
 ghost use Rattle.answer.specs.Outcomes.{Answers};
 ghost use Rattle.svgtree.specs.Parse.{count_of, sheet_of};
@@ -20,7 +22,7 @@ use svgtree::nodes::node_count;
 use units::Units;
 
 // Why collecting stopped: the chain's end, or a child that refuses the sheet.
-#[derive(Drop)]
+#[derive(Clone, Copy)]
 pub enum Stop {
     End,
     Refused(Refusal),
@@ -28,7 +30,7 @@ pub enum Stop {
 
 // The children that count: their naming state and the size of all their records. Their nodes' numbers, names and sizes stand in tables that are lent. An
 // enum may hold no array, so the reason stands beside the rest.
-#[derive(Drop)]
+#[derive(Clone, Copy)]
 pub struct Collected {
     pub stop: Stop,
     pub results: FilterResults,

@@ -1,7 +1,7 @@
 -- Whether what is kept of an item is within the limits, and what it is worth, by the tests of the code. Assumes nothing.
 use Prim.Native.Nat.{ℕ, ◌+◌, ◌-◌, ◌*◌, ◌^◌, ◌≤◌, ◌<◌}
 use mathlib.Core.Path.{◌≡◌, sym, ap, ◌∙◌, subst}
-use mathlib.Core.Bool.{true, false, ◌&&◌, and_false}
+use mathlib.Core.Bool.{true, false, ◌&&◌, and-false}
 use lib.Dec.{T, leb, ltb, leb→le, ltb→lt}
 use borrow.Author.Tests.{lt-ltb, le-ltb, le-leb, lt-leb}
 use lib.Ieee.{binary64, round, to_bits, of_bits}
@@ -35,7 +35,7 @@ module _ (d : Decimal) where
 
   pub limits_high : (u w : ℕ) → u ≡ power_up_held d → w ≡ power_down_held d → w + 22 < u → false ≡ in_limits_held d
   unfolding in_limits_held
-  limits_high u w e f g = rw (← e, ← f, lt-leb u (w + 22) g) (sym (and_false (ltb d.digits limit)))
+  limits_high u w e f g = rw (← e, ← f, lt-leb u (w + 22) g) (sym (and-false (ltb d.digits limit)))
 
   pub limits_low : (u w : ℕ) → u ≡ power_up_held d → w ≡ power_down_held d → d.digits < limit → u ≤ w + 22 → leb w (u + 22) ≡ in_limits_held d
   unfolding in_limits_held

@@ -3,7 +3,7 @@ use Prim.Native.Nat.{ℕ, ◌+◌, ◌-◌, ◌<◌}
 use native.Mathlib.Nat.{add-zero}
 use native.Mathlib.Omega.{arith}
 use mathlib.Core.Path.{◌≡◌, sym, ap, ◌∙◌}
-use mathlib.Core.Bool.{true, false, ◌||◌, or_true}
+use mathlib.Core.Bool.{true, false, ◌||◌, or-true}
 use mathlib.Core.List.{List}
 use lib.ListN.{get_or}
 use lib.Dec.{eqb}
@@ -44,7 +44,7 @@ module _ (s : List ℕ) (at left : ℕ) where
   sign_plus h e = sign_one h (rw (eq-eqb _ _ e))
 
   pub sign_minus : 0 < left → get_or s at 0 ≡ 45 → SignAt s at left 1
-  sign_minus h e = sign_one h (rw (eq-eqb (get_or s at 0) 45 e) (or_true (eqb (get_or s at 0) 43)))
+  sign_minus h e = sign_one h (rw (eq-eqb (get_or s at 0) 45 e) (or-true (eqb (get_or s at 0) 43)))
 
   pub sign_other : 0 < left → (get_or s at 0 ≡ 43 → ⊥) → (get_or s at 0 ≡ 45 → ⊥) → SignAt s at left 0
   sign_other h p q = sign_none h (rw (ne_eqb _ _ p, ne_eqb _ _ q))

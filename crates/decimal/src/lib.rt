@@ -1,4 +1,6 @@
 // A number as it is typed: read from its bytes, and what it is worth.
+#![tactic(auto)]
+
 ghost use Rattle.std.specs.Prelude.{◌≡◌, List, ℕ, ◌+◌, ◌-◌, ◌*◌, ◌^◌, ◌≤◌, ◌<◌, min, length, pos, false, cond};
 ghost use Rattle.bits.specs.Bytes.{bytes_from};
 ghost use Rattle.decimal.specs.Grammar.{is_digit, is_e, negative, leading_digits, after_digits, scaled, pointed, signed, item_of};
@@ -16,7 +18,7 @@ use num::double_narrowed;
 const LIMIT: u64 = 1000000000000000;
 
 // ± digits * 10 ^ (± exponent - decimals), held.
-#[derive(Drop)]
+#[derive(Clone, Copy)]
 pub struct Decimal {
     pub minus: bool,
     pub digits: u64,
@@ -25,14 +27,14 @@ pub struct Decimal {
     pub exponent: u64,
 }
 
-#[derive(Drop)]
+#[derive(Clone, Copy)]
 pub enum MaybeDecimal {
     Is(Decimal),
     No,
 }
 
 // Whether typed text is read. Outside the grammar it is refused with 10, outside the limits with 11.
-#[derive(Drop)]
+#[derive(Clone, Copy)]
 pub enum TextCheck {
     Passed,
     OutsideLimits,
@@ -40,7 +42,7 @@ pub enum TextCheck {
 }
 
 // How many digits stand somewhere, and their number.
-#[derive(Drop)]
+#[derive(Clone, Copy)]
 pub struct Run {
     pub len: usize,
     pub value: u64,

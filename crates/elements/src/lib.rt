@@ -1,4 +1,6 @@
 // What the filter makes of each element: its kind, with the inputs as they are read.
+#![tactic(auto)]
+
 ghost use Rattle.std.specs.Prelude.{map, ◌+◌, ◌<◌};
 ghost use Rattle.svgtree.specs.Parse.{node_from, nodes_from};
 ghost use Rattle.tree.specs.Kinds as spec;
@@ -48,7 +50,7 @@ use subregion::scale;
 use svgtree::{tag, text_of};
 
 // What an element gives.
-#[derive(Drop)]
+#[derive(Clone, Copy)]
 pub enum Made {
     Is(Kind),
     Unsupported,

@@ -1,4 +1,6 @@
 // What the conversions of the filter elements share.
+#![tactic(auto)]
+
 ghost use Rattle.std.specs.Prelude.{◌≡◌};
 ghost use Rattle.bits.specs.Texts.{maybe_text_is};
 ghost use Rattle.svgtree.specs.Parse.{node_from};

@@ -6,13 +6,13 @@ ghost use Rattle.fe.specs.Pairs.{pair_in, signs_clear, if_positive};
 use num::{is_positive, is_sign_negative};
 use number_list::{Numbers, number_at, numbers_len};
 
-#[derive(Drop)]
+#[derive(Clone, Copy)]
 pub struct Pair {
     pub x: f32,
     pub y: f32,
 }
 
-#[derive(Drop)]
+#[derive(Clone, Copy)]
 pub enum MaybePair {
     Is(Pair),
     No,

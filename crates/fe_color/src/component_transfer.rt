@@ -13,7 +13,7 @@ use svgtree::{MaybeNumbers, node_offset, numbers_of_lem, tag, text_of};
 use tree::{ComponentTransfer, TransferFunction};
 
 // A function, or that the element is not readable.
-#[derive(Drop)]
+#[derive(Clone, Copy)]
 pub enum MaybeTransferFunction {
     Is(TransferFunction),
     No,

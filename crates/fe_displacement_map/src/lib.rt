@@ -1,5 +1,7 @@
 // feDisplacementMap: a node's attributes to the fields of its kind, or the refusal that it causes. The node is given by its offset in the sheet; `scale` is
 // the size of the object's box in box units, and else 1 by 1.
+#![tactic(auto)]
+
 ghost use Rattle.std.specs.Prelude.{◌≡◌};
 ghost use Rattle.svgtree.specs.Parse.{node_from};
 ghost use Rattle.svgtree.specs.Readers.{text_of};
@@ -14,7 +16,7 @@ use svgtree::text_of;
 use tree::{ColorChannel, DisplacementMap};
 
 // A box whose width + height is not finite is refused.
-#[derive(Drop)]
+#[derive(Clone, Copy)]
 pub enum MaybeDisplacementMap {
     Is(DisplacementMap),
     Refused(Refusal),

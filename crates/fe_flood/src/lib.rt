@@ -1,4 +1,6 @@
 // feFlood, and the flood that stands for a light or a kernel that cannot be used.
+#![tactic(auto)]
+
 ghost use Rattle.std.specs.Prelude.{◌≡◌};
 ghost use Rattle.svgtree.specs.Parse.{node_from};
 ghost use Rattle.fe_flood.specs.Flood.{or_black, split_alpha, flood_of, transparent_black};
@@ -9,7 +11,7 @@ use svgtree::{MaybeColor, color_of};
 use tree::Flood;
 
 // A colour without its alpha, and the opacity that stands for the alpha.
-#[derive(Drop)]
+#[derive(Clone, Copy)]
 pub struct SplitColor {
     pub color: tree::Color,
     pub opacity: f32,

@@ -16,14 +16,14 @@ use number_list::{Numbers, numbers_len};
 use svgtree::{MaybeNumbers, number_of, numbers_of_lem, text_of};
 use tree::{ConvolveMatrix, ConvolveMatrixData, EdgeMode};
 
-#[derive(Drop)]
+#[derive(Clone, Copy)]
 pub enum MaybeMatrix {
     Is(ConvolveMatrixData),
     No,
 }
 
 // The source's Option<Kind>: No is where it makes the dummy primitive.
-#[derive(Drop)]
+#[derive(Clone, Copy)]
 pub enum MaybeConvolveMatrix {
     Is(ConvolveMatrix),
     No,

@@ -1,5 +1,7 @@
 // feConvolveMatrix: `convert_convolve_matrix` of parser/filter.rs, and a module for each attribute that takes more than reading. A node is given by its
 // offset in the sheet.
+#![tactic(auto)]
+
 pub mod convolve_matrix;
 pub mod divisor;
 pub mod order;

@@ -9,7 +9,7 @@ use num::f64_to_i32;
 use svgtree::{MaybeTries, Try, tries_of};
 
 // How many columns and rows a kernel has.
-#[derive(Drop)]
+#[derive(Clone, Copy)]
 pub struct Order {
     pub columns: u32,
     pub rows: u32,

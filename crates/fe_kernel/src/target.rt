@@ -6,7 +6,7 @@ use crate::order::above_zero;
 use num::f32_to_i32;
 use svgtree::MaybeNumber;
 
-#[derive(Drop)]
+#[derive(Clone, Copy)]
 pub enum MaybeTarget {
     Is(u32),
     No,

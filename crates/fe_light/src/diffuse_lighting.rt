@@ -10,7 +10,7 @@ use names::aid;
 use tree::DiffuseLighting;
 
 // The source's Option<Kind>: No is where it makes the dummy primitive.
-#[derive(Drop)]
+#[derive(Clone, Copy)]
 pub enum MaybeDiffuseLighting {
     Is(DiffuseLighting),
     No,

@@ -10,7 +10,7 @@ use svgtree::{MaybeNumber, node_offset, number_of, tag};
 use tree::{DistantLight, LightSource, OptionF32, PointLight, SpotLight};
 
 // The source's Option<LightSource>.
-#[derive(Drop)]
+#[derive(Clone, Copy)]
 pub enum MaybeLight {
     Is(LightSource),
     No,

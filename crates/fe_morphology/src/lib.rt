@@ -1,5 +1,7 @@
 // feMorphology: a node's attributes to the fields of its kind, or the refusal that it causes. The node is given by its offset in the sheet; `scale` is the
 // size of the object's box in box units, and else 1 by 1.
+#![tactic(auto)]
+
 ghost use Rattle.std.specs.Prelude.{◌≡◌};
 ghost use Rattle.names.specs.Ids.{aid_radius};
 ghost use Rattle.svgtree.specs.Parse.{node_from};
@@ -16,7 +18,7 @@ use svgtree::{MaybeNumbers, numbers_of_lem, text_of};
 use tree::{Morphology, MorphologyOperator};
 
 // A radius product that is not finite is refused.
-#[derive(Drop)]
+#[derive(Clone, Copy)]
 pub enum MaybeMorphology {
     Is(Morphology),
     Refused(Refusal),

@@ -1,4 +1,6 @@
 // feTurbulence: a node's attributes to the fields of its kind, or the refusal that it causes. The node is given by its offset in the sheet.
+#![tactic(auto)]
+
 ghost use Rattle.std.specs.Prelude.{◌≡◌};
 ghost use Rattle.names.specs.Ids.{aid_base_frequency};
 ghost use Rattle.svgtree.specs.Parse.{node_from};
@@ -14,7 +16,7 @@ use svgtree::{MaybeNumbers, numbers_of_lem, text_of};
 use tree::{Turbulence, TurbulenceKind};
 
 // A base frequency that is positive in sign and not finite is refused.
-#[derive(Drop)]
+#[derive(Clone, Copy)]
 pub enum MaybeTurbulence {
     Is(Turbulence),
     Refused(Refusal),

@@ -1,4 +1,6 @@
 // Tests of a field at a place of the bytes: what a sheet's layout, its numbers and a function record have in common.
+#![tactic(auto)]
+
 ghost use Rattle.std.specs.Prelude.{◌≡◌, ◌^◌, ◌<◌};
 ghost use Rattle.std.specs.Float.Ieee.Scale.{finite};
 ghost use Rattle.bits.specs.Bytes.{bytes_from};

@@ -1,5 +1,7 @@
 // The functions of one amount: the numbers of their matrices, tables and transfer functions. `convert_grayscale_function` and its seven siblings are the
 // functions of that name in parser/filter.rs. An f64 argument is given by its bits; a Vec of numbers is an array.
+#![tactic(auto)]
+
 ghost use Rattle.std.specs.Prelude.{◌≡◌};
 ghost use Rattle.std.specs.Float.{binary64};
 ghost use Rattle.std.specs.Float.Ieee.{of_bits, lt};

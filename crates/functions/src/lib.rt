@@ -1,5 +1,7 @@
 // The ten shorthand filter functions: the bytes of a function record to those of one kind. `convert_blur_function` and
 // `convert_drop_shadow_function` are the functions of that name in parser/filter.rs; the eight of one amount are in `function_amounts`.
+#![tactic(auto)]
+
 ghost use Rattle.std.specs.Prelude.{◌≡◌, [], ◌∷◌, ◌++◌, ◌+◌, ◌≤◌, ◌<◌, length};
 ghost use Rattle.bits.specs.Patch.{Put};
 ghost use Rattle.field_tests.specs.Tests.{all, double_ok};

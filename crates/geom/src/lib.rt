@@ -1,9 +1,11 @@
 // Rectangles of four f32 edges, as tiny-skia-path's NonZeroRect and Size have them, and the test of a length of tree/geom.rs.
+#![tactic(auto)]
+
 ghost use Rattle.std.specs.Prelude.{◌≡◌};
 ghost use Rattle.geom.specs.Geometry.{side, of_edges, of_size, width_of, height_of, size_of, placed, valid_length, view_box_length};
 
 // A rectangle by its edges. Its width and height are not stored: each is one subtraction.
-#[derive(Drop)]
+#[derive(Clone, Copy)]
 pub struct Rect {
     pub left: f32,
     pub top: f32,
@@ -12,14 +14,14 @@ pub struct Rect {
 }
 
 // A rectangle, or that there is none with the edges that were asked for.
-#[derive(Drop)]
+#[derive(Clone, Copy)]
 pub enum MaybeRect {
     Is(Rect),
     No,
 }
 
 // A width and a height.
-#[derive(Drop)]
+#[derive(Clone, Copy)]
 pub struct Size {
     pub width: f32,
     pub height: f32,

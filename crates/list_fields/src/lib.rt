@@ -1,4 +1,6 @@
 // The parts of a kind: its place in the declaration, its inputs, and its other fields, their size and their bytes. No names occur here.
+#![tactic(auto)]
+
 ghost use Rattle.std.specs.Prelude.{◌≡◌, ◌+◌, ◌^◌, ◌≤◌, ◌<◌, length};
 ghost use Rattle.bits.specs.Patch.{Put};
 ghost use Rattle.list_fields.specs.Means.{place_in, fields_in, InputsOf};
@@ -14,7 +16,7 @@ use list_values::{
 };
 
 // A kind's inputs, as they stand in the sheet: none, one, two, or those of some nodes from a number on.
-#[derive(Drop)]
+#[derive(Clone, Copy)]
 pub enum Inputs {
     Nothing,
     One(MaybeText),

@@ -1,5 +1,7 @@
 // Which bytes are a list in the layout, in either form. Most functions here take the place where a part of the layout begins and give the place after it;
 // `end` is where the bytes end. Bytes that are outside the layout have no place after them.
+#![tactic(auto)]
+
 ghost use Rattle.std.specs.Prelude.{◌≡◌, ◌+◌, ◌*◌, ◌-◌, ◌<◌, ◌≤◌};
 ghost use Rattle.bits.specs.Bytes.{bytes_from};
 ghost use Rattle.list_read.specs.Layout.{byte_below, any_bytes, f32s, vec, option, color_matrix_kind, transfer_function, composite_operator, light_source, layout_of};
@@ -7,7 +9,7 @@ ghost use Rattle.list_layout.specs.After.{place_is, after_bytes, after_item, aft
 
 use list_read::ListForm;
 
-#[derive(Drop)]
+#[derive(Clone, Copy)]
 enum Place {
     At(u32),
     Outside,

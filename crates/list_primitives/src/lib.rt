@@ -1,5 +1,7 @@
 // The list's records: the size and the bytes of a primitive of every kind, its inputs resolved with the names of the records before it, which stand in
 // a table that is lent.
+#![tactic(auto)]
+
 ghost use Rattle.std.specs.Prelude.{◌≡◌, map, ◌+◌, ◌*◌, ◌^◌, ◌≤◌, ◌<◌, length};
 ghost use Rattle.bits.specs.Patch.{Put};
 ghost use Rattle.bits.specs.Texts.{maybe_text_is};

@@ -1,4 +1,6 @@
 // The records of the list, one after the other, by a table of nodes and a table of names.
+#![tactic(auto)]
+
 ghost use Rattle.std.specs.Prelude.{◌≡◌, ◌+◌, ◌≤◌, ◌<◌, length};
 ghost use Rattle.bits.specs.Patch.{Put};
 ghost use Rattle.svgtree.specs.Parse.{count_of};

@@ -1,4 +1,6 @@
 // The names of svgtree/names.rs as the numbers of a sheet, and which kind of value an attribute's id asks.
+#![tactic(auto)]
+
 ghost use Rattle.std.specs.Prelude.{◌≡◌};
 ghost use Rattle.names.specs.Kinds.{on_child, on_grandchild, kind_in, kind_at, kind_allowed, tag_ok};
 

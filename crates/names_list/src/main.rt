@@ -1,5 +1,7 @@
 // Prints the constants of `names` as tools/names.py prints the numbers that it counts in the crate's source. The stored output is the script's:
 //     python3 tools/names.py src/parser/svgtree/names.rs > crates/names_list/stdout
+#![tactic(auto)]
+
 use libc::STDOUT_FILENO;
 use names::{aid, eid};
 

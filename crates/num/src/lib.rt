@@ -1,5 +1,7 @@
 // Numbers: f64 narrowed to f32, f32 and f64 rounded and cut to whole numbers, near zero.
 // Every public function takes any bits: infinities and NaN too.
+#![tactic(auto)]
+
 ghost use Rattle.std.specs.Prelude.{◌≡◌, Bool, cond, ◌+◌, ◌-◌, ◌*◌, ◌/◌, ◌%◌, ◌^◌, ◌≤◌, ◌<◌, min};
 ghost use Rattle.std.specs.Float.{binary32, binary64};
 ghost use Rattle.std.specs.Float.Ieee.{of_fields, of_bits, to_bits, to_signed};
@@ -142,7 +144,7 @@ pub fn narrow(bits: u64) -> u32
 
 // ---- bits read as numbers
 
-#[derive(Drop)]
+#[derive(Clone, Copy)]
 pub enum Number {
     Finite(f32),
     Not,

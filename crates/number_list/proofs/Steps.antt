@@ -3,7 +3,7 @@ use Prim.Native.Nat.{ℕ, suc, ◌+◌, ◌-◌, ◌≤◌, ◌<◌}
 use native.Mathlib.Nat.{add-zero, zero-add}
 use native.Mathlib.Omega.{arith}
 use mathlib.Core.Path.{◌≡◌, refl, sym, ap, ◌∙◌}
-use mathlib.Core.Bool.{Bool, true, false, ◌&&◌, cond, and-true, and_false, and_assoc}
+use mathlib.Core.Bool.{Bool, true, false, ◌&&◌, cond, and-true, and-false, and_assoc}
 use mathlib.Core.List.{List, [], ◌∷◌, map}
 use mathlib.Core.Option.{Option, none, some}
 use lib.ListN.{length}
@@ -102,7 +102,7 @@ module _ (s : List ℕ) (at len next n : ℕ) (ok : Bool) where
   step_within : (b : Bool) → text_step_is s at len (checked_step (cond b check.Passed check.OutsideLimits) next n ok) ≡ check_after (n + 1) (ok && b) rest
   unfolding rest
   step_within true = rw (and-true ok)
-  step_within false = rw (and_false ok)
+  step_within false = rw (and-false ok)
 
   step_item : (o : Option TypedItem) → text_step_is s at len (word_step (item_check o) next n ok) ≡ check_after n ok (and_more o rest)
   unfolding item_check rest

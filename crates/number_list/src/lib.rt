@@ -1,4 +1,6 @@
 // A list of numbers as it is typed: walked word by word, its numbers, and whether it is refused. And a list of either kind, four bytes a number or typed.
+#![tactic(auto)]
+
 ghost use Rattle.std.specs.Prelude.{◌≡◌, true, cond, List, [], ℕ, ◌+◌, ◌-◌, ◌^◌, ◌≤◌, ◌<◌, length, get_or, drop};
 ghost use Rattle.decimal.specs.declared.TextCheck.TheVariants.{Passed, OutsideLimits};
 ghost use Rattle.bits.specs.Bytes.{bytes_from};
@@ -14,7 +16,7 @@ use num::single;
 use sheet_fields::size;
 
 // A text of len bytes at a place, from its byte `from` on.
-#[derive(Drop)]
+#[derive(Clone, Copy)]
 pub struct Place {
     pub at: u32,
     pub len: u16,
@@ -22,7 +24,7 @@ pub struct Place {
 }
 
 // What stands before a part of a list.
-#[derive(Drop)]
+#[derive(Clone, Copy)]
 pub enum Before {
     Start,
     Item,
@@ -30,21 +32,21 @@ pub enum Before {
 }
 
 // The next part of a text.
-#[derive(Drop)]
+#[derive(Clone, Copy)]
 pub enum Token {
     End,
     Comma(u16),
     Word { from: u16, len: u16 },
 }
 
-#[derive(Drop)]
+#[derive(Clone, Copy)]
 pub enum MaybeWord {
     Is { from: u16, len: u16 },
     No,
 }
 
 // A step through a list: it ends, or it goes on after n items; `ok` says whether all of them are within the limits.
-#[derive(Drop)]
+#[derive(Clone, Copy)]
 pub enum TextStep {
     Done(TextCheck),
     More {
@@ -313,7 +315,7 @@ pub fn check_text(s: &[u8], at: u32, len: u16) -> TextCheck
 // ---- lists of numbers in bytes
 
 // A list of len numbers of four bytes each from the byte `at` on, or a typed text of len bytes.
-#[derive(Drop)]
+#[derive(Clone, Copy)]
 pub struct Numbers {
     pub at: u32,
     pub len: u16,

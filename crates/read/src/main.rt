@@ -1,6 +1,8 @@
 // Reads stored lists, the converter's own and damaged ones, and prints for each its name and whether it is in the layout of form 1; then how many there are,
 // how many are in the layout and how many are not. `harness/run.sh lists` writes the lists and, with a reader of its own, the answers.
 // A list is stored as its name's length in one byte, its own length in four, the lowest first; then the name, then the list.
+#![tactic(auto)]
+
 use bits::{byte, get32, u32_to_u64, wide8, wide32};
 use libc::{STDIN_FILENO, STDOUT_FILENO};
 use list_layout::in_layout;

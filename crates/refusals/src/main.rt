@@ -1,5 +1,7 @@
 // Runs sheets that a call must refuse, and some that stand just inside a limit, with banner's output buffer, and prints a line for each: its name, the number,
 // and whether the output is as it was. The stored input is written by tools/refusal_sheets.py, which says how a case is laid out.
+#![tactic(auto)]
+
 use answer::Answer;
 use bits::{byte, get32, put_u8, u8_to_u32, u32_to_u64, wide8, wide32};
 use libc::{STDIN_FILENO, STDOUT_FILENO};

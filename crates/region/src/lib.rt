@@ -1,5 +1,7 @@
 // The filter region and what the children are converted with: the first part of `convert_url` of filter.rs. Each of the filter element's four lengths
 // goes with the font size of the sheet that it is read from; units, view box, resolution and bounding box are given.
+#![tactic(auto)]
+
 ghost use Rattle.std.specs.Prelude.{◌≡◌};
 ghost use Rattle.geom.specs.Geometry.{placed};
 ghost use Rattle.svgtree.specs.Parse.{header_of};
@@ -17,7 +19,7 @@ use svgtree::{Length, LengthUnit};
 use units::{State, Units, convert_units, resolve_number};
 
 // The filter region, or why there is none.
-#[derive(Drop)]
+#[derive(Clone, Copy)]
 pub enum FilterRegion {
     Is(Rect),
     Refused(Refusal),
@@ -25,7 +27,7 @@ pub enum FilterRegion {
 
 // What the children are converted with, beside the sheet that holds them: primitiveUnits, the filter region, the object's bounding box, the
 // view box and the resolution.
-#[derive(Drop)]
+#[derive(Clone, Copy)]
 pub struct Frame {
     pub units: Units,
     pub region: Rect,

@@ -3,6 +3,8 @@
 // 2 narrowing),
 // the input's length, the output's length, the number wanted, the length wanted; then the input, then the bytes wanted. Narrowing has an
 // f64's bits as its input, and the f32's as its number.
+#![tactic(auto)]
+
 ghost use Rattle.std.specs.Prelude.{◌≤◌, ◌<◌};
 
 use answer::Answer;
@@ -154,7 +156,7 @@ fn one_if(holds: bool) -> u32
     if holds { 1 } else { 0 }
 }
 
-#[derive(Drop)]
+#[derive(Clone, Copy)]
 struct Tally {
     sheets: u32,
     records: u32,

@@ -3,7 +3,7 @@ use Prim.Native.Nat.{ℕ, zero, suc, ◌+◌, ◌-◌, ◌<◌}
 use native.Mathlib.Omega.{arith}
 use mathlib.Core.Path.{◌≡◌, refl, ap, ap₂, sym, ◌∙◌}
 use mathlib.Core.List.{List, [], ◌∷◌, ◌++◌, map}
-use mathlib.Core.Bool.{Bool, true, false, not, ◌&&◌, cond, or_true, and_false, and-true}
+use mathlib.Core.Bool.{Bool, true, false, not, ◌&&◌, cond, or-true, and-false, and-true}
 use lib.Dec.{eqb}
 use borrow.Author.Tests.{eqb-true}
 use Rattle.bits.specs.Bytes.{bytes_from}
@@ -116,7 +116,7 @@ all_append p (x ∷ xs) ys = go (p x) (all_append p xs ys)
 -- the numbers of a typed list pass
 typed_numbers_ok : (s : List ℕ) (at : ℕ) → attribute_kind_at s at ≡ kind_typed → attribute_numbers_ok (attribute_at s at) ≡ true
 unfolding attribute_numbers_ok attribute_at value_at value_numbers_ok opacity_ok
-typed_numbers_ok s at e = rw (e, typed_finite (bytes_from s (value_place at) (attribute_length_at s at)), or_true)
+typed_numbers_ok s at e = rw (e, typed_finite (bytes_from s (value_place at) (attribute_length_at s at)), or-true)
 
 attributes_judged : (s : List ℕ) (places : List ℕ)
     → worst (map (attribute_fault s) places)
@@ -215,7 +215,7 @@ module _ (s : List ℕ) where
   unfolding grammar_ok limits_ok numbers_ok sheet_of
   number_broken e =
       let h = is_number (all text_in_grammar (typed_texts s)) (all text_in_limits (typed_texts s)) numbers (e ∙ by_tests) in
-      (h.0, h.1, rw h.2 (and_false (header_numbers_ok (sheet_of s).header)))
+      (h.0, h.1, rw h.2 (and-false (header_numbers_ok (sheet_of s).header)))
 
   pub no_fault : Nothing ≡ faults → (grammar_ok s ≡ true) × (limits_ok s ≡ true) × (numbers_ok (sheet_of s) ≡ header_numbers_ok (sheet_of s).header)
   unfolding grammar_ok limits_ok numbers_ok sheet_of

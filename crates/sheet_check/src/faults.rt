@@ -6,7 +6,7 @@ ghost use Rattle.sheet_check.specs.Means.{text_fault, number_fault, at_least_num
 use decimal::TextCheck;
 
 // The worst last: a number that 3 refuses, a typed list outside the limits (11), one outside the grammar (10).
-#[derive(Drop)]
+#[derive(Clone, Copy)]
 pub enum Fault {
     Nothing,
     Number,

@@ -1,5 +1,6 @@
 // The layout of a sheet in numbers: where its fields stand, how many bytes they have, and what stands for a kind and for a unit. Each has the
 // number of the same name in specs/Fields.antt or specs/BoxFields.antt: the contracts of the functions that use it say so.
+#![tactic(auto)]
 
 // The part before the nodes. Its offsets are from the start of the sheet.
 pub mod header {

@@ -1,4 +1,6 @@
 // Whether a sheet's bytes are in the layout: refusal 2.
+#![tactic(auto)]
+
 ghost use Rattle.std.specs.Prelude.{◌≡◌, map, false, not, cond, ◌&&◌, ◌||◌, ◌+◌, ◌^◌, ◌<◌, length, get_or, eqb, leb};
 ghost use Rattle.bits.specs.Bytes.{bytes_from};
 ghost use Rattle.sheet_fields.specs.Fields.{kind_text, kind_numbers, kind_length, kind_tries, tries_second, tries_third};

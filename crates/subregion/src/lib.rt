@@ -1,5 +1,7 @@
 // The filter primitive subregion of a child, in the place of `resolve_primitive_region` of filter.rs, and the scale of a child's numbers, from its
 // `collect_children`.
+#![tactic(auto)]
+
 ghost use Rattle.std.specs.Prelude.{◌≡◌};
 ghost use Rattle.svgtree.specs.Parse.{node_from};
 ghost use Rattle.subregion.specs.Subregions.{corner_in_box, side_in_box, region_of, size_in, scale_of};
@@ -14,7 +16,7 @@ use svgtree::{MaybeNumber, font_size};
 use units::{Units, try_convert_length};
 
 // A child's x, y, width and height as numbers, where they are given.
-#[derive(Drop)]
+#[derive(Clone, Copy)]
 struct Given {
     x: MaybeNumber,
     y: MaybeNumber,

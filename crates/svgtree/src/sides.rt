@@ -11,7 +11,7 @@ use bits::{byte, wide16, wide32};
 use names::aid;
 use sheet_fields::{attribute, kind, node};
 
-#[derive(Drop)]
+#[derive(Clone, Copy)]
 pub struct Sides {
     pub x: MaybeLength,
     pub y: MaybeLength,
@@ -20,7 +20,7 @@ pub struct Sides {
 }
 
 // Where each of the four begins; 0 for one that is absent.
-#[derive(Drop)]
+#[derive(Clone, Copy)]
 struct Places {
     x: u32,
     y: u32,

@@ -1,11 +1,13 @@
 // The filter primitive's types.
 // Where the source has a Vec or a String, a value holds a place in the lent bytes. A kind's inputs are not held here: in
 // each struct of the source they come first, so a kind is its place, its inputs, and the fields that these types hold.
+#![tactic(auto)]
+
 use number_list::Numbers;
 
 // The types of tree/mod.rs.
 
-#[derive(Drop)]
+#[derive(Clone, Copy)]
 pub struct Color {
     pub red: u8,
     pub green: u8,
@@ -13,7 +15,7 @@ pub struct Color {
 }
 
 // PlusLighter, the source's last one, is left out: the attribute `mode` never gives it.
-#[derive(Drop)]
+#[derive(Clone, Copy)]
 pub enum BlendMode {
     Normal,
     Multiply,
@@ -35,21 +37,21 @@ pub enum BlendMode {
 
 // The types of tree/filter.rs.
 
-#[derive(Drop)]
+#[derive(Clone, Copy)]
 pub enum ColorInterpolation {
     SRGB,
     LinearRGB,
 }
 
 // The source's Option<f32>.
-#[derive(Drop)]
+#[derive(Clone, Copy)]
 pub enum OptionF32 {
     None,
     Some(f32),
 }
 
 // Identity is the source's default, a matrix of 20 numbers that stands in no lent bytes.
-#[derive(Drop)]
+#[derive(Clone, Copy)]
 pub enum ColorMatrixKind {
     Matrix(Numbers),
     Identity,
@@ -58,7 +60,7 @@ pub enum ColorMatrixKind {
     LuminanceToAlpha,
 }
 
-#[derive(Drop)]
+#[derive(Clone, Copy)]
 pub enum TransferFunction {
     Identity,
     Table(Numbers),
@@ -74,7 +76,7 @@ pub enum TransferFunction {
     },
 }
 
-#[derive(Drop)]
+#[derive(Clone, Copy)]
 pub struct ComponentTransfer {
     pub func_r: TransferFunction,
     pub func_g: TransferFunction,
@@ -82,7 +84,7 @@ pub struct ComponentTransfer {
     pub func_a: TransferFunction,
 }
 
-#[derive(Drop)]
+#[derive(Clone, Copy)]
 pub enum CompositeOperator {
     Over,
     In,
@@ -93,7 +95,7 @@ pub enum CompositeOperator {
     Arithmetic { k1: f32, k2: f32, k3: f32, k4: f32 },
 }
 
-#[derive(Drop)]
+#[derive(Clone, Copy)]
 pub struct ConvolveMatrixData {
     pub target_x: u32,
     pub target_y: u32,
@@ -102,14 +104,14 @@ pub struct ConvolveMatrixData {
     pub data: Numbers,
 }
 
-#[derive(Drop)]
+#[derive(Clone, Copy)]
 pub enum EdgeMode {
     None,
     Duplicate,
     Wrap,
 }
 
-#[derive(Drop)]
+#[derive(Clone, Copy)]
 pub struct ConvolveMatrix {
     pub matrix: ConvolveMatrixData,
     pub divisor: f32,
@@ -118,7 +120,7 @@ pub struct ConvolveMatrix {
     pub preserve_alpha: bool,
 }
 
-#[derive(Drop)]
+#[derive(Clone, Copy)]
 pub enum ColorChannel {
     R,
     G,
@@ -126,14 +128,14 @@ pub enum ColorChannel {
     A,
 }
 
-#[derive(Drop)]
+#[derive(Clone, Copy)]
 pub struct DisplacementMap {
     pub scale: f32,
     pub x_channel_selector: ColorChannel,
     pub y_channel_selector: ColorChannel,
 }
 
-#[derive(Drop)]
+#[derive(Clone, Copy)]
 pub struct DropShadow {
     pub dx: f32,
     pub dy: f32,
@@ -143,32 +145,32 @@ pub struct DropShadow {
     pub opacity: f32,
 }
 
-#[derive(Drop)]
+#[derive(Clone, Copy)]
 pub struct Flood {
     pub color: Color,
     pub opacity: f32,
 }
 
-#[derive(Drop)]
+#[derive(Clone, Copy)]
 pub struct GaussianBlur {
     pub std_dev_x: f32,
     pub std_dev_y: f32,
 }
 
-#[derive(Drop)]
+#[derive(Clone, Copy)]
 pub struct DistantLight {
     pub azimuth: f32,
     pub elevation: f32,
 }
 
-#[derive(Drop)]
+#[derive(Clone, Copy)]
 pub struct PointLight {
     pub x: f32,
     pub y: f32,
     pub z: f32,
 }
 
-#[derive(Drop)]
+#[derive(Clone, Copy)]
 pub struct SpotLight {
     pub x: f32,
     pub y: f32,
@@ -180,14 +182,14 @@ pub struct SpotLight {
     pub limiting_cone_angle: OptionF32,
 }
 
-#[derive(Drop)]
+#[derive(Clone, Copy)]
 pub enum LightSource {
     DistantLight(DistantLight),
     PointLight(PointLight),
     SpotLight(SpotLight),
 }
 
-#[derive(Drop)]
+#[derive(Clone, Copy)]
 pub struct DiffuseLighting {
     pub surface_scale: f32,
     pub diffuse_constant: f32,
@@ -195,7 +197,7 @@ pub struct DiffuseLighting {
     pub light_source: LightSource,
 }
 
-#[derive(Drop)]
+#[derive(Clone, Copy)]
 pub struct SpecularLighting {
     pub surface_scale: f32,
     pub specular_constant: f32,
@@ -204,32 +206,32 @@ pub struct SpecularLighting {
     pub light_source: LightSource,
 }
 
-#[derive(Drop)]
+#[derive(Clone, Copy)]
 pub enum MorphologyOperator {
     Erode,
     Dilate,
 }
 
-#[derive(Drop)]
+#[derive(Clone, Copy)]
 pub struct Morphology {
     pub operator: MorphologyOperator,
     pub radius_x: f32,
     pub radius_y: f32,
 }
 
-#[derive(Drop)]
+#[derive(Clone, Copy)]
 pub struct Offset {
     pub dx: f32,
     pub dy: f32,
 }
 
-#[derive(Drop)]
+#[derive(Clone, Copy)]
 pub enum TurbulenceKind {
     FractalNoise,
     Turbulence,
 }
 
-#[derive(Drop)]
+#[derive(Clone, Copy)]
 pub struct Turbulence {
     pub base_frequency_x: f32,
     pub base_frequency_y: f32,

@@ -1,4 +1,6 @@
 // Lengths in user units: units.rs, the lengths of converter.rs, and `resolve_number` and `convert_units` of paint_server.rs.
+#![tactic(auto)]
+
 ghost use Rattle.std.specs.Prelude.{◌≡◌};
 ghost use Rattle.units.specs.Lengths.{percent_base, percent_of, convert_units, convert_length, converted, resolve_number};
 
@@ -8,14 +10,14 @@ use svgtree::header::dpi;
 use svgtree::{Length, LengthUnit, MaybeLength, MaybeNumber, MaybeUnits, font_size};
 
 // What filterUnits and primitiveUnits say.
-#[derive(Drop)]
+#[derive(Clone, Copy)]
 pub enum Units {
     UserSpaceOnUse,
     ObjectBoundingBox,
 }
 
 // What a length is converted with, beside the font size: the part of converter.rs `State` in use.
-#[derive(Drop)]
+#[derive(Clone, Copy)]
 pub struct State {
     pub view_box: Size,
     pub dpi: f32,

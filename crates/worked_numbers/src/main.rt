@@ -1,6 +1,8 @@
 // Runs worked numbers through the compiled functions of `num` and prints one line a result: the function, its argument's bits in hex,
 // and the answer. The answers of the stored `stdout` are the harness's (its command `numbers`): Rust's `as f32`, `as i32`, `f32::round`, `is_finite` and
 // `is_sign_negative`, and for octaves a second implementation in Rust; every NaN is printed as 7fc00000.
+#![tactic(auto)]
+
 use bits::bits_of;
 use libc::STDOUT_FILENO;
 use num::Number;

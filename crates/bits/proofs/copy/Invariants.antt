@@ -1,0 +1,16 @@
+use borrow.Author.Rules.{rules}
+use native.Mathlib.Omega.{arith}
+use Prim.Native.Nat.{◌+◌, ◌-◌, ◌≤◌}
+use mathlib.Core.Path.{◌≡◌}
+use lib.ListN.{length, get_or}
+use Rattle.bits.specs.Bytes.{bytes_from}
+use Rattle.bits.specs.Patch.{Put, patch}
+use Rattle.bits.proofs.Runs.{bytes_from_more}
+use Rattle.bits.proofs.Patches.{◌then◌}
+use Rattle.bits.proofs.copy.Given as goal
+
+abbrev pub invariant-loop-j : goal.invariant-loop-j
+invariant-loop-j l = (l.j ≤ l.n) × (length l.out ≡ length l.initial.out) × Put l.initial.out l.at l.j (bytes_from l.s l.from l.j) l.out l.o
+
+abbrev pub decreases-loop-j : goal.decreases-loop-j
+decreases-loop-j l = l.n - l.j

@@ -1,0 +1,6 @@
+-- The four bytes of the number's bits. Assumes nothing.
+use borrow.Author.Rules.{rules}
+use Rattle.bits.proofs.put_f32.Goals as goal
+
+pub returns : goal.returns
+returns c = rw (← c.bits_of.ensures) c.put_u32.ensures

@@ -1,0 +1,7 @@
+-- The digits, and one byte behind them. Assumes nothing.
+use Rattle.bits.proofs.Patches.{◌then◌}
+use borrow.Author.Rules.{rules}
+use Rattle.hex_digits.proofs.put_hex_line.Goals as goal
+
+pub returns : goal.returns
+returns c = c.put_hex-end.ensures then c.put_u8.ensures
