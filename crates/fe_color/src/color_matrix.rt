@@ -10,7 +10,7 @@ use fe::is_word;
 use names::aid;
 use num::f32_bound;
 use number_list::{Numbers, number_at, numbers_len};
-use svgtree::{MaybeNumbers, numbers_of_lem, text_of};
+use svgtree::{MaybeNumbers, numbers_of, text_of};
 use tree::ColorMatrixKind;
 
 fn first_or(s: &[u8], list: Numbers, default: f32) -> f32
@@ -62,7 +62,7 @@ pub fn convert_color_matrix_kind(s: &[u8], at: u16) -> ColorMatrixKind
     ensures { color_matrix_kind_is s.now result ≡ color_matrix_kind_of (node_from s.now at) }
 {
     let t = text_of(s, at, aid::TYPE);
-    let values = numbers_of_lem(s, at, aid::VALUES);
+    let values = numbers_of(s, at, aid::VALUES);
     if is_word(s, t, b"saturate") {
         return saturate(s, values);
     }

@@ -9,7 +9,7 @@ ghost use Rattle.fe_color.specs.Means.{maybe_transfer_function_is, assigned};
 use fe::{is_word, number_or};
 use names::{aid, eid};
 use number_list::{Numbers, no_numbers};
-use svgtree::{MaybeNumbers, node_offset, numbers_of_lem, tag, text_of};
+use svgtree::{MaybeNumbers, node_offset, numbers_of, tag, text_of};
 use tree::{ComponentTransfer, TransferFunction};
 
 // A function, or that the element is not readable.
@@ -23,7 +23,7 @@ pub enum MaybeTransferFunction {
 fn table_values(s: &[u8], at: u16) -> Numbers
     ensures { numbers_is s.now result ≡ table_values_of (node_from s.now at) }
 {
-    let values = numbers_of_lem(s, at, aid::TABLE_VALUES);
+    let values = numbers_of(s, at, aid::TABLE_VALUES);
     match values {
         MaybeNumbers::Is(list) => list,
         MaybeNumbers::No => no_numbers(),

@@ -13,7 +13,7 @@ use fe::{is_word, number_or};
 use names::aid;
 use num::approx_zero_ulps;
 use number_list::{Numbers, numbers_len};
-use svgtree::{MaybeNumbers, number_of, numbers_of_lem, text_of};
+use svgtree::{MaybeNumbers, number_of, numbers_of, text_of};
 use tree::{ConvolveMatrix, ConvolveMatrixData, EdgeMode};
 
 #[derive(Clone, Copy)]
@@ -84,7 +84,7 @@ fn convert_preserve_alpha(s: &[u8], at: u16) -> bool
 pub fn convert_convolve_matrix(s: &[u8], at: u16) -> MaybeConvolveMatrix
     ensures { maybe_convolve_matrix_is s.now result ≡ convolve_matrix_of (node_from s.now at) }
 {
-    let list = numbers_of_lem(s, at, aid::KERNEL_MATRIX);
+    let list = numbers_of(s, at, aid::KERNEL_MATRIX);
     let MaybeNumbers::Is(kernel) = list else {
         return MaybeConvolveMatrix::No;
     };

@@ -14,7 +14,7 @@ use fe::pair::{MaybePair, Pair, if_positive, list_pair, signs_clear};
 use geom::Size;
 use names::aid;
 use num::approx_zero_ulps;
-use svgtree::{MaybeNumbers, numbers_of_lem, text_of};
+use svgtree::{MaybeNumbers, numbers_of, text_of};
 use tree::{Morphology, MorphologyOperator};
 
 // A radius product that is not finite is refused.
@@ -70,7 +70,7 @@ fn radius_from(p: Pair, scale: Size) -> MaybePair
 fn radius(s: &[u8], at: u16, scale: Size) -> MaybePair
     ensures { result ≡ radius_of (numbers_of (node_from s.now at) aid_radius) scale }
 {
-    let list = numbers_of_lem(s, at, aid::RADIUS);
+    let list = numbers_of(s, at, aid::RADIUS);
     match list {
         MaybeNumbers::Is(ns) => radius_from(ones_for_zeros(list_pair(s, ns)), scale),
         MaybeNumbers::No => MaybePair::Is(Pair {

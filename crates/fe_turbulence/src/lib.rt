@@ -12,7 +12,7 @@ use fe::pair::{MaybePair, Pair, if_positive, list_pair, signs_clear};
 use fe::{is_word, number_or};
 use names::aid;
 use num::{f32_to_i32, octaves};
-use svgtree::{MaybeNumbers, numbers_of_lem, text_of};
+use svgtree::{MaybeNumbers, numbers_of, text_of};
 use tree::{Turbulence, TurbulenceKind};
 
 // A base frequency that is positive in sign and not finite is refused.
@@ -34,7 +34,7 @@ fn frequency_from(p: Pair) -> MaybePair
 fn base_frequency(s: &[u8], at: u16) -> MaybePair
     ensures { result ≡ frequency_of (numbers_of (node_from s.now at) aid_base_frequency) }
 {
-    let list = numbers_of_lem(s, at, aid::BASE_FREQUENCY);
+    let list = numbers_of(s, at, aid::BASE_FREQUENCY);
     match list {
         MaybeNumbers::Is(ns) => frequency_from(list_pair(s, ns)),
         MaybeNumbers::No => MaybePair::Is(Pair { x: 0.0, y: 0.0 }),

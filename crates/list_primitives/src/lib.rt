@@ -32,7 +32,7 @@ fn one_size(s: &[u8], names: &[u64; 512], n: u16, t: MaybeText) -> u32
 
 fn put_one(s: &[u8], names: &[u64; 512], n: u16, t: MaybeText, out: &mut [u8], at: usize) -> usize
     requires name_table { NameTable s.now names.now n }
-    requires t_in_bounds { at + length (input_bytes_at s.now names.now n (maybe_text_is s.now t)) ≤ length out.old }
+    requires room { at + length (input_bytes_at s.now names.now n (maybe_text_is s.now t)) ≤ length out.old }
     ensures { Put out.old at (length (input_bytes_at s.now names.now n (maybe_text_is s.now t))) (input_bytes_at s.now names.now n (maybe_text_is s.now t)) out.new result }
 {
     put_input(s, resolve_input(s, names, n, t), out, at)
@@ -64,7 +64,7 @@ fn put_run(
     at: usize,
 ) -> usize
     requires name_table { NameTable s.now names.now n × (first + count ≤ 512) }
-    requires count_in_bounds { at + length (input_run (input_bytes_at s.now names.now n) (map in_of (nodes_from s.now first count))) ≤ length out.old }
+    requires room { at + length (input_run (input_bytes_at s.now names.now n) (map in_of (nodes_from s.now first count))) ≤ length out.old }
     ensures { Put out.old at (length (input_run (input_bytes_at s.now names.now n) (map in_of (nodes_from s.now first count)))) (input_run (input_bytes_at s.now names.now n) (map in_of (nodes_from s.now first count))) out.new result }
 {
     let mut o = at;
@@ -100,7 +100,7 @@ fn put_inputs(
     at: usize,
 ) -> usize
     requires name_table { NameTable s.now names.now n × (inputs_end inputs ≤ 512) }
-    requires inputs_in_bounds { at + length (inputs_bytes (input_bytes_at s.now names.now n) (inputs_is s.now inputs)) ≤ length out.old }
+    requires room { at + length (inputs_bytes (input_bytes_at s.now names.now n) (inputs_is s.now inputs)) ≤ length out.old }
     ensures { Put out.old at (length (inputs_bytes (input_bytes_at s.now names.now n) (inputs_is s.now inputs))) (inputs_bytes (input_bytes_at s.now names.now n) (inputs_is s.now inputs)) out.new result }
 {
     match inputs {
@@ -137,7 +137,7 @@ pub fn put_primitive(
     at: usize,
 ) -> usize
     requires name_table { NameTable s.now names.now n × (merge_end child.kind ≤ 512) }
-    requires child_in_bounds { at + length (primitive_bytes (primitive_at s.now names.now n name child)) ≤ length out.old }
+    requires room { at + length (primitive_bytes (primitive_at s.now names.now n name child)) ≤ length out.old }
     ensures { Put out.old at (length (primitive_bytes (primitive_at s.now names.now n name child))) (primitive_bytes (primitive_at s.now names.now n name child)) out.new result }
 {
     let rect = child.rect;

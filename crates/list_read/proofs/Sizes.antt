@@ -3,7 +3,7 @@ use Prim.Native.Nat.{ℕ, zero, suc, ◌+◌, ◌*◌, ◌<◌, ◌≤◌}
 use native.Mathlib.Omega.{arith}
 use mathlib.Core.Path.{◌≡◌, refl, subst}
 use mathlib.Core.List.{List, [], ◌∷◌, ◌++◌}
-use mathlib.Core.Bool.{Bool, true, ◌&&◌}
+use mathlib.Core.Bool.{false, Bool, true, ◌&&◌}
 use mathlib.Core.Option.{Option, none, some}
 use borrow.Author.Tests.{ltb-true, leb-true, eqb-true}
 use lib.Dec.{T, leb, ltb}
@@ -155,6 +155,7 @@ table_small = (tt, (tt, (tt, (tt, (tt, (tt, (tt, (tt, (tt, (tt, (tt, (tt, (tt, (
 
 T_true : (b : Bool) → T b → b ≡ true
 T_true true h = refl
+T_true false h = elim h [ ]
 
 layout_small : (k : ℕ) (l : Layout) → layout_of k ≡ some l → (fields_most l.fields ≤ 32868) × (arity_most l.inputs ≤ 511)
 unfolding layout_of

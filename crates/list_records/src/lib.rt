@@ -62,7 +62,7 @@ pub fn put_records(
     at: usize,
 ) -> usize
     requires name_table { NameTable s.now names.now records × (count_of s.now ≤ 512) × Below nodes.now (count_of s.now) records }
-    requires records_in_bounds { at + length (records_up_to frame s.now nodes.now names.now records) ≤ length out.old }
+    requires room { at + length (records_up_to frame s.now nodes.now names.now records) ≤ length out.old }
     ensures { Put out.old at (length (records_up_to frame s.now nodes.now names.now records)) (records_up_to frame s.now nodes.now names.now records) out.new result }
 {
     let mut o = at;

@@ -117,18 +117,18 @@ numbers_in_lem (length_value u x) h = tt
 numbers_in_lem (color_value c) h = tt
 numbers_in_lem (tries_value t) h = tt
 
-text_in : (v : Value) → AcceptedValue v → OptionFit (text_in v)
+text_in_lem : (v : Value) → AcceptedValue v → OptionFit (text_in v)
 unfolding text_in
-text_in absent h = tt
-text_in (text_value t) h = rw (le-leb (length t) 255 h.0, h.1) refl
-text_in (number_value x) h = tt
-text_in (numbers_value xs) h = tt
-text_in (length_value u x) h = tt
-text_in (color_value c) h = tt
-text_in (tries_value t) h = tt
+text_in_lem absent h = tt
+text_in_lem (text_value t) h = rw (le-leb (length t) 255 h.0, h.1) refl
+text_in_lem (number_value x) h = tt
+text_in_lem (numbers_value xs) h = tt
+text_in_lem (length_value u x) h = tt
+text_in_lem (color_value c) h = tt
+text_in_lem (tries_value t) h = tt
 
 pub text_of_lem : (n : Node) → AcceptedNode n → (id : ℕ) → OptionFit (text_of n id)
-text_of_lem n h id = text_in (value_under id n.attributes) (h.value id)
+text_of_lem n h id = text_in_lem (value_under id n.attributes) (h.value id)
 
 numbers_of_lem : (n : Node) → AcceptedNode n → (id : ℕ) → ListFit (numbers_of n id)
 numbers_of_lem n h id = numbers_in_lem (value_under id n.attributes) (h.value id)

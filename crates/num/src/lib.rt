@@ -116,7 +116,7 @@ fn nearest_shift(n: u64, d: u64) -> u64
 fn magnitude(x: u64, t: u64) -> u64
     requires { (x * 4503599627370496 + t ≤ 9218868437227405312) × (t < 4503599627370496) }
     ensures upper_bound { result ≤ 2139095040 }
-    ensures t_value { (s : Bool) → to_bits binary32 (narrowed (of_fields binary64 s x t)) ≡ cond s 2147483648 0 + result }
+    ensures bits_narrowed { (s : Bool) → to_bits binary32 (narrowed (of_fields binary64 s x t)) ≡ cond s 2147483648 0 + result }
 {
     if x < 873 {
         return 0;

@@ -61,6 +61,8 @@ Given maybe-pair.No = ⊥
 
 clear_plus : (x : Float) → T (finite x) → T (not (sign_negative x)) → T (plus x)
 clear_plus (fin s m e) f h = h
+clear_plus lib.Ieee.nan f h = elim f [ ]
+clear_plus (lib.Ieee.inf _) f h = elim f [ ]
 
 positive_given : (p : Pair) → T (positive p.x) → T (positive p.y) → Given (if_positive p)
 unfolding if_positive
@@ -68,6 +70,7 @@ positive_given p hx hy = go (positive p.x && positive p.y) (and_i (positive p.x)
   where
     go : (b : Bool) → T b → Given (cond b (maybe-pair.Is p) maybe-pair.No)
     go true h = tt
+    go false h = elim h [ ]
 
 clear_given : (p : Pair) → T (finite p.x) → T (finite p.y) → T (signs_clear p) → Given (if_positive p)
 unfolding signs_clear
@@ -100,6 +103,7 @@ six_goes e q = let z : ◌≡◌ {A = ℕ} 0 1 = cc in omega arith
 
 turbulence_made_lem : (n : Node) (m : MaybePair) → Given m → MadeGoes (turbulence_made (turbulence_with n m))
 turbulence_made_lem n (maybe-pair.Is p) h = tt
+turbulence_made_lem n maybe-pair.No h = elim h [ ]
 
 convolve_made_lem : (n : Node) (o : Option ConvolveMatrixFields) → MadeGoes (convolve_made n o)
 convolve_made_lem n none = tt

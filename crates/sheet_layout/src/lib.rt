@@ -14,7 +14,7 @@ use bits::{byte, is_utf8, run_is, wide16, wide32};
 use field_tests::{is_zero, marked_ok};
 use names::{aid, kind_allowed, tag_ok};
 use sheet_fields::{attribute, header, kind, marked, node, size, space, tries, unit};
-use svgtree::attributes::{head_at, next_place_lem, value_place};
+use svgtree::attributes::{head_at, next_place, value_place};
 use svgtree::nodes::{node_count, pair_length, pair_offset, pair_place};
 use svgtree::{Head, node_offset};
 
@@ -226,7 +226,7 @@ fn entries_ok(s: &[u8], depth: u8, start: usize, n: u8, size: usize) -> bool
             return false;
         }
         low = wide16(head.id) + 1;
-        at = next_place_lem(at, head.len);
+        at = next_place(at, head.len);
         left -= 1;
     }
     at == start + size

@@ -37,7 +37,7 @@ pub fn value_place(at: usize) -> usize
 }
 
 // Where the next attribute begins, behind a value of so many bytes.
-pub fn next_place_lem(at: usize, len: u16) -> usize
+pub fn next_place(at: usize, len: u16) -> usize
     requires { at < 2 ^ 40 }
     ensures { result ≡ value_place at + len }
 {
@@ -60,7 +60,7 @@ fn find_from(s: &[u8], start: usize, n: u8, id: u16) -> Found
                 kind: head.kind,
             };
         }
-        at = next_place_lem(at, head.len);
+        at = next_place(at, head.len);
         left -= 1;
     }
     Found::Absent

@@ -5,7 +5,7 @@ ghost use Rattle.svgtree.specs.Parse.{attribute_at, places_from, node_from};
 ghost use Rattle.svgtree.specs.Sides.{value_from, PlacesOf, SidesOf};
 
 use crate::MaybeLength;
-use crate::attributes::{head_at, next_place_lem, value_place};
+use crate::attributes::{head_at, next_place, value_place};
 use crate::values::length_from;
 use bits::{byte, wide16, wide32};
 use names::aid;
@@ -58,7 +58,7 @@ fn places_from(s: &[u8], start: usize, n: u8) -> Places
         y = first(y, aid::Y, head.id, place);
         width = first(width, aid::WIDTH, head.id, place);
         height = first(height, aid::HEIGHT, head.id, place);
-        at = next_place_lem(at, head.len);
+        at = next_place(at, head.len);
         left -= 1;
     }
     Places {

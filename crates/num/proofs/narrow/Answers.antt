@@ -14,6 +14,6 @@ returns c =
     let b = c.args.bits in
     let r = c.magnitude-m.result in
     let k : Bits (b / 4503599627370496 % 2048) (b % 4503599627370496) r =
-    subst (λ (x : ℕ). Bits x (b % 4503599627370496) r) c.exponent64.ensures (subst (λ (t : ℕ). Bits c.exponent64.result t r) c.fraction64.ensures c.magnitude-m.ensures.t_value) in
+    subst (λ (x : ℕ). Bits x (b % 4503599627370496) r) c.exponent64.ensures (subst (λ (t : ℕ). Bits c.exponent64.result t r) c.fraction64.ensures c.magnitude-m.ensures.bits_narrowed) in
     let w : b / 9223372036854775808 * 2147483648 % 18446744073709551616 + r ≡ b / 9223372036854775808 * 2147483648 + r = omega arith in
     w ∙ whole b r c.ranges.bits.fits k

@@ -1,0 +1,6 @@
+-- The number that the getter reads, or the default. Assumes nothing.
+use borrow.Author.Rules.{rules}
+use Rattle.fe.proofs.number_or.Goals as goal
+
+pub returns : goal.returns
+returns c = rw (← c.number_of.ensures) c.or_else.ensures

@@ -1,0 +1,38 @@
+-- The tests are the words of the second half of the table, in order: behind a test that failed the answer is that of the words after it (`miss`). Assumes nothing.
+use Prim.Native.Nat.{ℕ}
+use mathlib.Core.Path.{◌≡◌}
+use mathlib.Core.List.{List}
+use mathlib.Core.Option.{Option}
+use lib.ListN.{drop}
+use Rattle.bits.specs.Texts.{maybe_text_is}
+use Rattle.tree.specs.declared.BlendMode.{BlendMode}
+use Rattle.tree.specs.declared.BlendMode.TheVariants.{Normal}
+use Rattle.fe.specs.Keywords.{keyword}
+use Rattle.fe.proofs.Keywords.{hit, miss, other}
+use Rattle.fe_color.specs.Blend.{modes}
+use borrow.Author.Rules.{rules}
+use Rattle.fe_color.proofs.blend.later_mode.Goals as goal
+
+pub returns-then-is_word : goal.returns-then-is_word
+returns-then-is_word c = hit _ _ _ _ _ _ c.is_word.ensures c.if-is_word.true
+
+pub returns-then-is_word-2 : goal.returns-then-is_word-2
+returns-then-is_word-2 c = miss _ _ _ _ _ _ _ c.is_word.ensures c.if-is_word.false (hit _ _ _ _ _ _ c.is_word-2.ensures c.if-is_word-2.true)
+
+pub returns-then-is_word-3 : goal.returns-then-is_word-3
+returns-then-is_word-3 c = miss _ _ _ _ _ _ _ c.is_word.ensures c.if-is_word.false (miss _ _ _ _ _ _ _ c.is_word-2.ensures c.if-is_word-2.false (hit _ _ _ _ _ _ c.is_word-3.ensures c.if-is_word-3.true))
+
+pub returns-then-is_word-4 : goal.returns-then-is_word-4
+returns-then-is_word-4 c = miss _ _ _ _ _ _ _ c.is_word.ensures c.if-is_word.false (miss _ _ _ _ _ _ _ c.is_word-2.ensures c.if-is_word-2.false (miss _ _ _ _ _ _ _ c.is_word-3.ensures c.if-is_word-3.false (hit _ _ _ _ _ _ c.is_word-4.ensures c.if-is_word-4.true)))
+
+pub returns-then-is_word-5 : goal.returns-then-is_word-5
+returns-then-is_word-5 c = miss _ _ _ _ _ _ _ c.is_word.ensures c.if-is_word.false (miss _ _ _ _ _ _ _ c.is_word-2.ensures c.if-is_word-2.false (miss _ _ _ _ _ _ _ c.is_word-3.ensures c.if-is_word-3.false (miss _ _ _ _ _ _ _ c.is_word-4.ensures c.if-is_word-4.false (hit _ _ _ _ _ _ c.is_word-5.ensures c.if-is_word-5.true))))
+
+pub returns-then-is_word-6 : goal.returns-then-is_word-6
+returns-then-is_word-6 c = miss _ _ _ _ _ _ _ c.is_word.ensures c.if-is_word.false (miss _ _ _ _ _ _ _ c.is_word-2.ensures c.if-is_word-2.false (miss _ _ _ _ _ _ _ c.is_word-3.ensures c.if-is_word-3.false (miss _ _ _ _ _ _ _ c.is_word-4.ensures c.if-is_word-4.false (miss _ _ _ _ _ _ _ c.is_word-5.ensures c.if-is_word-5.false (hit _ _ _ _ _ _ c.is_word-6.ensures c.if-is_word-6.true)))))
+
+pub returns-then-is_word-7 : goal.returns-then-is_word-7
+returns-then-is_word-7 c = miss _ _ _ _ _ _ _ c.is_word.ensures c.if-is_word.false (miss _ _ _ _ _ _ _ c.is_word-2.ensures c.if-is_word-2.false (miss _ _ _ _ _ _ _ c.is_word-3.ensures c.if-is_word-3.false (miss _ _ _ _ _ _ _ c.is_word-4.ensures c.if-is_word-4.false (miss _ _ _ _ _ _ _ c.is_word-5.ensures c.if-is_word-5.false (miss _ _ _ _ _ _ _ c.is_word-6.ensures c.if-is_word-6.false (hit _ _ _ _ _ _ c.is_word-7.ensures c.if-is_word-7.true))))))
+
+pub returns : goal.returns
+returns c = miss _ _ _ _ _ _ _ c.is_word.ensures c.if-is_word.false (miss _ _ _ _ _ _ _ c.is_word-2.ensures c.if-is_word-2.false (miss _ _ _ _ _ _ _ c.is_word-3.ensures c.if-is_word-3.false (miss _ _ _ _ _ _ _ c.is_word-4.ensures c.if-is_word-4.false (miss _ _ _ _ _ _ _ c.is_word-5.ensures c.if-is_word-5.false (miss _ _ _ _ _ _ _ c.is_word-6.ensures c.if-is_word-6.false (miss _ _ _ _ _ _ _ c.is_word-7.ensures c.if-is_word-7.false (other _ _)))))))

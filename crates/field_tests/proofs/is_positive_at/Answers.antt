@@ -1,0 +1,16 @@
+-- A number that is not finite is not positive. Assumes nothing.
+use mathlib.Core.Path.{◌∙◌, sym}
+use Rattle.field_tests.proofs.Finiteness.{finite_is, finite_no, finite_yes}
+use borrow.Author.Rules.{rules}
+use Rattle.field_tests.proofs.is_positive_at.Goals as goal
+
+pub returns-in-Finite : goal.returns-in-Finite
+returns-in-Finite c =
+    let e = rw c.get32.ensures at c.take_single-x.ensures in
+    let g = sym e ∙ c.in-Finite.is in
+    rw (finite_yes _ _ g, finite_is _ _ g)
+
+pub returns-in-Not : goal.returns-in-Not
+returns-in-Not c =
+    let e = rw c.get32.ensures at c.take_single-x.ensures in
+    rw (finite_no _ (sym e ∙ c.in-Not.is))

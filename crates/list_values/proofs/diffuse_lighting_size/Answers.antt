@@ -1,0 +1,11 @@
+-- All but the light takes 11 bytes. Assumes nothing.
+use Rattle.tree.proofs.Lengths.{length_diffuse_lighting, length-light_source}
+use native.Mathlib.Omega.{arith}
+use borrow.Author.Rules.{rules}
+use Rattle.list_values.proofs.diffuse_lighting_size.Goals as goal
+
+pub returns : goal.returns
+returns c =
+    let e0 = length_diffuse_lighting c.args.v in
+    let e1 = length-light_source c.args.v.light_source in
+    (omega arith, omega arith)

@@ -1,0 +1,11 @@
+-- Two writers in a row are one. Assumes nothing.
+use native.Mathlib.Omega.{arith}
+use Rattle.bits.proofs.Patches.{◌then◌, ◌counted◌}
+use Rattle.tree.specs.Fields.{gaussian_blur_bytes}
+use borrow.Author.Rules.{rules}
+use Rattle.list_values.proofs.put_gaussian_blur.Goals as goal
+
+pub returns : goal.returns
+unfolding gaussian_blur_bytes
+returns c =
+    c.put_f32-a.ensures then c.put_f32.ensures counted omega arith

@@ -1,0 +1,45 @@
+-- The number goes on while its name is taken, at most to the first that is free. Assumes nothing.
+use borrow.Author.Rules.{rules}
+use mathlib.Core.Path.{sym, refl, ◌∙◌}
+use Prim.Native.Nat.{◌-◌, ◌≤◌}
+use native.Mathlib.Omega.{arith}
+use Rattle.naming.specs.Names.{first_free, own_names}
+use Rattle.naming.proofs.Naming.{free_at_least, free_at_most, free_go, free_stop}
+use Rattle.results.specs.Means.{labels_is}
+use Rattle.results.proofs.Tables.{taken_few}
+use Rattle.results.proofs.FilterResults.made.Goals as goal
+
+pub loop-k-init : goal.loop-k-init
+loop-k-init c =
+    let f = c.args.self in
+    (omega arith, free_at_least (own_names (labels_is c.args.s.now c.args.names.now f.count)) f.idx)
+
+pub overflow_add-k : goal.overflow_add-k
+overflow_add-k c =
+    let f = c.args.self in
+    omega (arith, free_at_most (own_names (labels_is c.args.s.now c.args.names.now f.count)) f.idx, taken_few c.args.s.now c.args.names.now f.count)
+
+pub loop-k-smaller : goal.loop-k-smaller
+loop-k-smaller c =
+    let f = c.args.self in
+    let l = c.loop-k in
+    omega (arith, free_go (own_names (labels_is c.args.s.now c.args.names.now f.count)) f.idx l.k l.invariant.1 (sym c.is_taken.ensures ∙ c.loop-k-test.true))
+
+pub loop-k-preserved : goal.loop-k-preserved
+loop-k-preserved c =
+    let f = c.args.self in
+    let l = c.loop-k in
+    (omega arith, omega (arith, free_go (own_names (labels_is c.args.s.now c.args.names.now f.count)) f.idx l.k l.invariant.1 (sym c.is_taken.ensures ∙ c.loop-k-test.true)))
+
+pub overflow_add-self-2 : goal.overflow_add-self-2
+overflow_add-self-2 c =
+    let f = c.args.self in
+    omega (arith, free_at_most (own_names (labels_is c.args.s.now c.args.names.now f.count)) f.idx, taken_few c.args.s.now c.args.names.now f.count)
+
+pub returns : goal.returns
+returns c =
+    let f = c.args.self in
+    let l = c.loop-k in
+    let os = own_names (labels_is c.args.s.now c.args.names.now f.count) in
+    let q = free_stop os f.idx l.k l.invariant.0 l.invariant.1 (sym c.is_taken.ensures ∙ c.loop-k-test.false) in
+    record { count = refl; highest = refl; idx = omega (arith, q); near = omega (arith, free_at_most os f.idx, taken_few c.args.s.now c.args.names.now f.count) }

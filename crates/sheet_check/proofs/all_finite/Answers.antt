@@ -1,0 +1,29 @@
+-- Invariant: the test of all numbers is the test of those that are left. Assumes nothing.
+use borrow.Author.Rules.{rules}
+use Prim.Native.Nat.{◌*◌, ◌+◌, ◌≤◌}
+use mathlib.Core.Path.{◌∙◌, ◌≡◌, sym}
+use Rattle.field_tests.specs.Tests.{all}
+use native.Mathlib.Omega.{arith}
+use lib.Ieee.Scale.{finite}
+use borrow.Author.Tests.{not-false, not-true}
+use Rattle.sheet_check.proofs.Numbering.{singles_none, singles_step}
+use Rattle.sheet_fields.specs.Fields.{size_number}
+use Rattle.svgtree.specs.Parse.{singles_from}
+use Rattle.sheet_check.proofs.all_finite.Goals as goal
+
+pub returns-then-not-is_finite_at : goal.returns-then-not-is_finite_at
+returns-then-not-is_finite_at c =
+    let l = c.loop-left in
+    let s = c.args.s.now in
+    sym (l.invariant.1 ∙ singles_step s l.at l.left (omega arith) ∙ simp (sym c.is_finite_at.ensures ∙ c.if-not-is_finite_at.true))
+
+pub loop-left-preserved : goal.loop-left-preserved
+loop-left-preserved c =
+    let l = c.loop-left in
+    let s = c.args.s.now in
+    (search rules, l.invariant.1 ∙ singles_step s l.at l.left (omega arith) ∙ simp (sym c.is_finite_at.ensures ∙ c.if-not-is_finite_at.false))
+
+pub returns : goal.returns
+returns c =
+    let l = c.loop-left in
+    sym (l.invariant.1 ∙ singles_none c.args.s.now l.at l.left (omega arith))

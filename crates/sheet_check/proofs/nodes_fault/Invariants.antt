@@ -1,0 +1,14 @@
+use borrow.Author.Rules.{rules}
+use Prim.Native.Nat.{◌+◌, ◌-◌, ◌≤◌, ℕ}
+use mathlib.Core.Path.{◌∙◌, ◌≡◌, ap, sym}
+use native.Mathlib.Omega.{arith}
+use Rattle.svgtree.specs.Parse.{count_of, offset_of}
+use Rattle.sheet_check.specs.Means.{worse_of, worst, node_fault, node_faults}
+use Rattle.sheet_check.proofs.Judging.{worse_none, worse_assoc, nodes_step, nodes_none}
+use Rattle.sheet_check.proofs.nodes_fault.Given as goal
+
+abbrev pub invariant-loop-i : goal.invariant-loop-i
+invariant-loop-i l = (l.i ≤ l.n) × (l.n ≡ count_of l.s) × (worst (node_faults l.s 0 (count_of l.s)) ≡ worse_of l.found (worst (node_faults l.s l.i (l.n - l.i))))
+
+abbrev pub decreases-loop-i : goal.decreases-loop-i
+decreases-loop-i l = l.n - l.i

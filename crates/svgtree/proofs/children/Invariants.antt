@@ -1,0 +1,13 @@
+use borrow.Author.Rules.{rules}
+use Rattle.svgtree.proofs.Following.{Begun, begun_all, begun_more, begun_none, begun_stop}
+use Prim.Native.Nat.{◌+◌, ◌-◌, ◌≤◌}
+use mathlib.Core.Path.{◌∙◌, ◌≡◌, refl, sym}
+use native.Mathlib.Omega.{arith}
+use Rattle.svgtree.specs.Parse.{count_of}
+use Rattle.svgtree.proofs.children.Given as goal
+
+abbrev pub invariant-loop-k : goal.invariant-loop-k
+invariant-loop-k l = (l.left ≡ count_of l.s - (l.i + 1)) × (l.k ≤ l.left) × Begun l.s (l.i + 1) l.left l.k
+
+abbrev pub decreases-loop-k : goal.decreases-loop-k
+decreases-loop-k l = l.left - l.k

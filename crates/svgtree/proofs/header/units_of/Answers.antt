@@ -1,0 +1,18 @@
+-- Each arm is a case of `units_of`. Assumes nothing.
+use Rattle.svgtree.specs.Parse.{units_of}
+use borrow.Author.Tests.{ne_eqb}
+use Rattle.svgtree.proofs.header.units_of.Goals as goal
+
+pub returns-in-0 : goal.returns-in-0
+unfolding units_of
+returns-in-0 c = rw c.in-0.is
+
+pub returns-in-1 : goal.returns-in-1
+unfolding units_of
+returns-in-1 c = rw c.in-1.is
+
+pub returns-in_default : goal.returns-in_default
+unfolding units_of
+returns-in_default c =
+    let r = c.in_default.in_default-own.rest in
+    simp (ne_eqb _ 0 r.0.1, ne_eqb _ 1 r.1)

@@ -1,0 +1,6 @@
+-- The pair's first number, cut to two bytes. Assumes nothing.
+use borrow.Author.Rules.{rules}
+use Rattle.svgtree.proofs.nodes.offset_at.Goals as goal
+
+pub returns : goal.returns
+returns c = cc
