@@ -36,7 +36,7 @@ build=target/harness
 lib=${ZATONGAE_LIB:-}
 if [ -z "$lib" ]; then
     mkdir -p $build
-    if ! rt staticlib zatongae > $build/staticlib.log 2>&1; then
+    if ! tools/archive > $build/staticlib.log 2>&1; then
         cat $build/staticlib.log >&2
         exit 1
     fi

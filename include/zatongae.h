@@ -2,7 +2,7 @@
  *
  * Build and link, from the top of the repository:
  *
- *     rt staticlib zatongae
+ *     tools/archive
  *     cc -Iinclude examples/convert.c target/staticlib/libzatongae.a -o convert
  *
  * The archive is for x86-64 Linux. It needs memcpy and memset of the C library and nothing else.
@@ -31,7 +31,7 @@ extern "C" {
 /* The most bytes that a sheet may have. */
 #define ZATONGAE_SHEET_BYTES 65536
 
-/* No list is longer (theorem `accepted-fits` of crates/list_bounds), so with an output of this size 9 is never given. */
+/* No list is longer (theorem `accepted_fits` of crates/list_bounds), so with an output of this size 9 is never given. */
 #define ZATONGAE_LIST_BYTES 589824
 
 /* The numbers of an answer. They are tested in this order, and the first whose cause holds is given:

@@ -1,46 +1,47 @@
 // Reads a sheet from standard input and prints its list in lower-case hex and a newline, or the number of the refusal in decimal and a newline.
 #![tactic(auto)]
 
-use bits::u32_to_u64;
 use hex_digits::put_hex_line;
-use libc::{STDIN_FILENO, STDOUT_FILENO};
+use input::read_full;
+use std::io;
 use zatongae::zatongae_convert;
 
-fn print_first(text: &[u8], n: usize) {
+fn print_first(rt: &impl Print, text: &[u8], n: usize) -> io::Result<()> {
     if n <= text.len() {
-        io::write_all(STDOUT_FILENO, &text[0..n]);
+        rt.write_all(&text[0..n])?;
     }
+    Ok(())
 }
 
-fn print_bytes(bytes: &[u8]) {
+fn print_bytes(rt: &impl Print, bytes: &[u8]) -> io::Result<()> {
     if bytes.len() > 65536 {
-        return;
+        return Ok(());
     }
     let mut text = [0u8; 131073];
     let n = put_hex_line(bytes, &mut text, 0);
-    print_first(&text, n);
+    print_first(rt, &text, n)
 }
 
-fn print_list(out: &[u8], n: usize) {
+fn print_list(rt: &impl Print, out: &[u8], n: usize) -> io::Result<()> {
     if n <= out.len() {
-        print_bytes(&out[0..n]);
+        print_bytes(rt, &out[0..n])?;
     }
+    Ok(())
 }
 
-fn print_number(number: u32) {
-    io::print_decimal(STDOUT_FILENO, u32_to_u64(number));
-    io::write_all(STDOUT_FILENO, b"\n");
+fn print_number(rt: &impl Print, number: u32) -> io::Result<()> {
+    println!(rt; "{number}")
 }
 
-fn main() {
+fn main(rt: HostRuntime) -> io::Result<()> {
     // one byte more than a sheet may have, so that a longer input is a sheet that is too long
     let mut sheet = [0u8; 65537];
     let mut out = [0u8; 65536];
-    let n = io::read_full(STDIN_FILENO, &mut sheet);
+    let n = read_full(&mut rt.stdin(), &mut sheet)?;
     let answer = zatongae_convert(&sheet[..n], &mut out);
     if answer.number == 0 {
-        print_list(&out, answer.length);
+        print_list(&rt, &out, answer.length)
     } else {
-        print_number(answer.number);
+        print_number(&rt, answer.number)
     }
 }

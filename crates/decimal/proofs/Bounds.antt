@@ -38,7 +38,7 @@ product_below n u d h k =
     let c : 10 ^ 37 ≤ 10 ^ 37 * 10 ^ (d - u) = le_trans (le_of_eq (sym (mul-one (10 ^ 37)))) (mul-le-mul_left (10 ^ 37) (ten_pos (d - u))) in
     lt_of_lt_of_le a (le_trans b c)
 
--- the exact value of an item within the limits, ± whole digits * 10 ^ (powerUp - powerDown), is below 10 ^ 37
+-- the exact value of an item within the limits, ± whole digits * 10 ^ (power_up - power_down), is below 10 ^ 37
 pub item_below : (i : TypedItem) → T (all_digits i.digits) → in_limits i ≡ true
     → whole i.digits * 10 ^ (power_up i - power_down i) < 10 ^ 37 * 10 ^ (power_down i - power_up i)
 item_below i t e =

@@ -15,7 +15,7 @@ unfoldable pub digit_count : List ℕ → ℕ
 digit_count [] = 0
 digit_count (d ∷ ds) = cond (eqb d 48) (digit_count ds) (length (d ∷ ds))
 
--- "the power is the exponent less the decimals": it is powerUp less powerDown, and an exponent with a minus goes down
+-- "the power is the exponent less the decimals": it is `power_up` less `power_down`, and an exponent with a minus goes down
 abbrev pub power_up : TypedItem → ℕ
 power_up i = cond i.exponent_minus 0 (whole i.exponent)
 

@@ -63,7 +63,7 @@ pub record SignAt (s : List ℕ) (at left n : ℕ) : Type 0 where
 
 -- ---- the limits and the worth of an item that is kept so: the definitions of Limits.antt and Value.antt, on what is held
 
--- the power is powerUpHeld less powerDownHeld
+-- the power is `power_up_held` less `power_down_held`
 abbrev pub power_up_held : Decimal → ℕ
 power_up_held d = cond d.exponent_minus 0 d.exponent
 

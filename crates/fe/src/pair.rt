@@ -1,4 +1,4 @@
-// A number for x and one for y, as `radius`, `baseFrequency` and `std_deviation` have them.
+// A number for x and one for y, as `radius`, `baseFrequency` and `stdDeviation` have them.
 ghost use Rattle.std.specs.Prelude.{◌≡◌};
 ghost use Rattle.number_list.specs.Lists.{numbers_is};
 ghost use Rattle.fe.specs.Pairs.{pair_in, signs_clear, if_positive};

@@ -1,4 +1,4 @@
--- Cases of `std_deviation` and of its scaling, each found by computing.
+-- Cases of `stdDeviation` and of its scaling, each found by computing.
 use Rattle.std.specs.Prelude.{◌≡◌, refl, [], ◌∷◌, Float}
 use Rattle.std.proofs.Math.Option.{Option, none, some}
 use Rattle.std.specs.Float.{binary32, binary64}
@@ -12,7 +12,7 @@ use Rattle.svgtree.specs.Readers.{value_under, tries_in}
 use Rattle.fe.specs.Pairs.{pair_of}
 use Rattle.fe_blur.specs.GaussianBlur.{deviation, deviations_of}
 
--- a node with nothing but the tries at `std_deviation`
+-- a node with nothing but the tries at `stdDeviation`
 abbrev trying : Tried → Node
 trying t = record { depth = 0; tag = eid_fe_gaussian_blur; font_size = plus_zero; attributes = record { id = aid_std_deviation; value = tries_value t } ∷ [] }
 

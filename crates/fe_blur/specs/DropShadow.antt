@@ -1,5 +1,5 @@
 -- feDropShadow. Definitions only.
--- Filter Effects Module Level 1: `dx`, `dy` and `std_deviation` are those of feOffset and feGaussianBlur, but 2 where absent; the colour is that of
+-- Filter Effects Module Level 1: `dx`, `dy` and `stdDeviation` are those of feOffset and feGaussianBlur, but 2 where absent; the colour is that of
 -- feFlood.
 use Rattle.num.specs.Constants.{two}
 use Rattle.geom.specs.declared.Size.{Size}

@@ -1,5 +1,5 @@
--- feGaussianBlur, and its attribute `std_deviation`, which feDropShadow has too. Definitions only.
--- Filter Effects Module Level 1, feGaussianBlur: `std_deviation` is one number for both axes, or one for x and one for y; absent, it is 0. For
+-- feGaussianBlur, and its attribute `stdDeviation`, which feDropShadow has too. Definitions only.
+-- Filter Effects Module Level 1, feGaussianBlur: `stdDeviation` is one number for both axes, or one for x and one for y; absent, it is 0. For
 -- feDropShadow it is 2 where absent.
 use Rattle.std.specs.Prelude.{cond, Float}
 use Rattle.std.proofs.Math.Option.{Option, none, some}

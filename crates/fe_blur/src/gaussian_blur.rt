@@ -1,4 +1,4 @@
-// feGaussianBlur, and the attribute `std_deviation`, which feDropShadow has too.
+// feGaussianBlur, and the attribute `stdDeviation`, which feDropShadow has too.
 ghost use Rattle.std.specs.Prelude.{◌≡◌};
 ghost use Rattle.svgtree.specs.Means.{try_is, maybe_tries_is};
 ghost use Rattle.svgtree.specs.Parse.{node_from};

@@ -20,7 +20,7 @@ abbrev pub saturate_of : Option (List Float) → ColorMatrixKind
 saturate_of none = Matrix identity_matrix
 saturate_of (some xs) = Saturate (f32_bound plus_zero (first_or one xs) one)
 
--- `hue_rotate`: one number, an angle in degrees, 0 where the list has none. Longer lists and an absent one as above.
+-- `hueRotate`: one number, an angle in degrees, 0 where the list has none. Longer lists and an absent one as above.
 abbrev pub hue_rotate_of : Option (List Float) → ColorMatrixKind
 hue_rotate_of none = Matrix identity_matrix
 hue_rotate_of (some xs) = HueRotate (first_or plus_zero xs)

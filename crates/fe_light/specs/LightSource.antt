@@ -21,7 +21,7 @@ use Rattle.fe_light.specs.declared.light_source.MaybeLight.TheVariants.{Is, No}
 abbrev pub distant_light_of : Node → DistantLightFields
 distant_light_of n = record { azimuth = number_or n aid_azimuth plus_zero; elevation = number_or n aid_elevation plus_zero }
 
--- fePointLight: the place of the light, each coordinate 0 where it is absent. The document: coordinates in the units that `primitive_units`
+-- fePointLight: the place of the light, each coordinate 0 where it is absent. The document: coordinates in the units that `primitiveUnits`
 -- names; the crate: the numbers as they are, whatever the units.
 abbrev pub point_light_of : Node → PointLightFields
 point_light_of n = record { x = number_or n aid_x plus_zero; y = number_or n aid_y plus_zero; z = number_or n aid_z plus_zero }

@@ -42,7 +42,7 @@ amount code b = header code ++ double_bytes b
 abbrev length_bytes : ℕ → ℕ → List ℕ
 length_bytes unit b = (unit ∷ []) ++ double_bytes b
 
--- a case: a record's bytes, the output's lengthBytes, and what comes of it
+-- a case: a record's bytes, the output's length, and what comes of it
 pub record FunctionCase : Type 0 where
   pub bytes : List ℕ
   pub room : ℕ

@@ -63,7 +63,7 @@ vec_walk low high xs r h k m =
     let s : length xs < 65536 = omega arith in
     rw (append_assoc (bytes16 (length xs)) (run_bytes xs) r, read16_back (length xs) (run_bytes xs ++ r) s, le-leb low (length xs) h, le-leb (length xs) high k) (run_patterns xs r)
 
--- an enum's place is byteBelow their number
+-- an enum's place is `byte_below` their number
 
 blend_small : (v : BlendMode) → ltb (blend_mode_place v) 16 ≡ true
 blend_small blend.Normal = refl

@@ -8,37 +8,29 @@
 ghost use Rattle.std.specs.Prelude.{◌≤◌, ◌<◌};
 
 use answer::Answer;
-use bits::{byte, get32, get64, put_u8, u32_to_u64, wide32};
-use libc::STDOUT_FILENO;
+use bits::{byte, get32, get64, wide32};
+use input::read_full;
+use std::io::Read;
+use std::{fs, io};
 use zatongae::{zatongae_convert, zatongae_convert_function, zatongae_narrow};
 
 fn fill(s: &mut [u8]) {
-    let mut i: usize = 0;
-    while i < s.len() {
-        i = put_u8(s, i, 170);
+    for x in s.iter_mut() {
+        *x = 170;
     }
 }
 
 // Whether s is still as `fill` left it, from a place on.
 fn filled_from(s: &[u8], from: usize) -> bool {
-    let mut i = from;
-    while i < s.len() {
-        if s[i] != 170 {
-            return false;
-        }
-        i += 1;
-    }
-    true
+    s.iter().skip(from).all(|x| *x == 170)
 }
 
 // Whether the first n bytes are the same.
 fn same(a: &[u8], b: &[u8], n: usize) -> bool {
-    let mut i: usize = 0;
-    while i < n {
+    for i in 0..n {
         if byte(a, i) != byte(b, i) {
             return false;
         }
-        i += 1;
     }
     true
 }
@@ -78,11 +70,11 @@ fn narrows(input: &[u8], number: u32) -> bool {
     zatongae_narrow(get64(input, 0)) == number
 }
 
-fn read_part(fd: i32, buf: &mut [u8], n: usize) -> bool {
+fn read_part(file: &mut impl Read, buf: &mut [u8], n: usize) -> io::Result<bool> {
     if n > buf.len() {
-        return false;
+        return Ok(false);
     }
-    io::read_full(fd, &mut buf[0..n]) == n
+    Ok(read_full(file, &mut buf[0..n])? == n)
 }
 
 // What became of a case is a number, so that the loop over the cases has one path: twice the call, and 1 more for a difference.
@@ -124,14 +116,19 @@ fn run_case(
     )
 }
 
-fn step(fd: i32, sheet: &mut [u8], out: &mut [u8], want: &mut [u8]) -> u32 {
+fn step(
+    file: &mut impl Read,
+    sheet: &mut [u8],
+    out: &mut [u8],
+    want: &mut [u8],
+) -> io::Result<u32> {
     let mut head = [0u8; 20];
-    let k = io::read_full(fd, &mut head);
+    let k = read_full(file, &mut head)?;
     if k == 0 {
-        return END;
+        return Ok(END);
     }
     if k < 20 {
-        return BROKEN;
+        return Ok(BROKEN);
     }
     let call = get32(&head, 0);
     let n = wide32(get32(&head, 4));
@@ -139,15 +136,15 @@ fn step(fd: i32, sheet: &mut [u8], out: &mut [u8], want: &mut [u8]) -> u32 {
     let number = get32(&head, 12);
     let length = wide32(get32(&head, 16));
     if call > 2 {
-        return BROKEN;
+        return Ok(BROKEN);
     }
-    if !read_part(fd, sheet, n) {
-        return BROKEN;
+    if !read_part(file, sheet, n)? {
+        return Ok(BROKEN);
     }
-    if !read_part(fd, want, length) {
-        return BROKEN;
+    if !read_part(file, want, length)? {
+        return Ok(BROKEN);
     }
-    run_case(call, sheet, n, out, room, want, number, length)
+    Ok(run_case(call, sheet, n, out, room, want, number, length))
 }
 
 fn one_if(holds: bool) -> u32
@@ -165,69 +162,66 @@ struct Tally {
     whole: bool,
 }
 
-// The loop counts its turns down, since nothing says that a file ends.
-fn run(fd: i32, sheet: &mut [u8], out: &mut [u8], want: &mut [u8]) -> Tally {
+// The loop has a last turn, since nothing says that a file ends.
+fn run(
+    file: &mut impl Read,
+    sheet: &mut [u8],
+    out: &mut [u8],
+    want: &mut [u8],
+) -> io::Result<Tally> {
     let mut sheets: u32 = 0;
     let mut records: u32 = 0;
     let mut narrowed: u32 = 0;
     let mut differences: u32 = 0;
-    let mut left: u32 = 4000000000;
-    while left > 0 {
-        let code = step(fd, sheet, out, want);
+    for _ in 0..4_000_000_000u32 {
+        let code = step(file, sheet, out, want)?;
         if code > 5 {
-            return Tally {
+            return Ok(Tally {
                 sheets,
                 records,
                 narrowed,
                 differences,
                 whole: code == END,
-            };
+            });
         }
         sheets += one_if(code < 2);
         records += one_if(code / 2 == 1);
         narrowed += one_if(code > 3);
         differences += one_if(code % 2 == 1);
-        left -= 1;
     }
-    Tally {
+    Ok(Tally {
         sheets,
         records,
         narrowed,
         differences,
         whole: false,
-    }
+    })
 }
 
-fn print_count(n: u32, what: &[u8]) {
-    io::print_decimal(STDOUT_FILENO, u32_to_u64(n));
-    io::write_all(STDOUT_FILENO, what);
+fn print_count(rt: &impl Print, n: u32, what: &str) -> io::Result<()> {
+    print!(rt; "{n}{what}")
 }
 
-fn report(t: Tally) {
-    print_count(t.sheets, b" sheets, ");
-    print_count(t.records, b" function records, ");
-    print_count(t.narrowed, b" numbers narrowed, ");
-    print_count(t.differences, b" differences\n");
+fn report(rt: &impl Print, t: Tally) -> io::Result<()> {
+    print_count(rt, t.sheets, " sheets, ")?;
+    print_count(rt, t.records, " function records, ")?;
+    print_count(rt, t.narrowed, " numbers narrowed, ")?;
+    print_count(rt, t.differences, " differences\n")?;
     if !t.whole {
-        io::write_all(STDOUT_FILENO, b"the file is broken off\n");
+        println!(rt; "the file is broken off")?;
     }
+    Ok(())
 }
 
-fn replay(fd: i32) {
+fn replay(rt: &impl Print, file: &mut impl Read) -> io::Result<()> {
     // one byte more than a sheet can have, so that a longer one can be replayed
     let mut sheet = [0u8; 65537];
     let mut out = [0u8; 65536];
     let mut want = [0u8; 65536];
-    report(run(fd, &mut sheet, &mut out, &mut want));
+    report(rt, run(file, &mut sheet, &mut out, &mut want)?)
 }
 
-fn main() {
-    let path = b"cases";
-    let fd = os::open_read(path);
-    if fd < 0 {
-        os::fail(path);
-        return;
-    }
-    replay(fd);
-    libc::close(fd);
+fn main(rt: HostRuntime) -> io::Result<()> {
+    let mut file = fs::open(&rt, "cases")?;
+    replay(&rt, &mut file)
 }

@@ -4,57 +4,42 @@
 #![tactic(auto)]
 
 use bits::bits_of;
-use libc::STDOUT_FILENO;
 use num::Number;
 use number_list::packed;
+use std::io;
 
-fn write(text: &[u8]) {
-    io::write_all(STDOUT_FILENO, text);
+fn write(rt: &impl Print, text: &str) -> io::Result<()> {
+    rt.print(text)
 }
 
-fn write_bits32(bits: u32) {
-    io::print_hex(STDOUT_FILENO, bits::u32_to_u64(bits), 8);
+fn write_bits32(rt: &impl Print, bits: u32) -> io::Result<()> {
+    print!(rt; "{bits:08x}")
 }
 
-fn write_bits64(bits: u64) {
-    io::print_hex(STDOUT_FILENO, bits, 16);
+fn write_bits64(rt: &impl Print, bits: u64) -> io::Result<()> {
+    print!(rt; "{bits:016x}")
 }
 
-fn write_f32(x: f32) {
-    write_bits32(bits_of(x));
+fn write_f32(rt: &impl Print, x: f32) -> io::Result<()> {
+    write_bits32(rt, bits_of(x))
 }
 
-fn write_u32(x: u32) {
-    io::print_decimal(STDOUT_FILENO, bits::u32_to_u64(x));
+fn write_u32(rt: &impl Print, x: u32) -> io::Result<()> {
+    rt.print(x)
 }
 
-// |x|; of the least i32 too.
-fn size(x: i32) -> u64 {
-    if x < 0 {
-        return 1 + ((-1 - x) as u64);
-    }
-    x as u64
+fn write_i32(rt: &impl Print, x: i32) -> io::Result<()> {
+    rt.print(x)
 }
 
-fn write_i32(x: i32) {
-    if x < 0 {
-        write(b"-");
-    }
-    io::print_decimal(STDOUT_FILENO, size(x));
+fn write_bool(rt: &impl Print, x: bool) -> io::Result<()> {
+    print!(rt; " {x}")
 }
 
-fn write_bool(x: bool) {
-    if x {
-        write(b" true");
-        return;
-    }
-    write(b" false");
-}
-
-fn write_number(x: Number) {
+fn write_number(rt: &impl Print, x: Number) -> io::Result<()> {
     match x {
-        Number::Finite(y) => write_f32(y),
-        Number::Not => write(b"not"),
+        Number::Finite(y) => write_f32(rt, y),
+        Number::Not => write(rt, "not"),
     }
 }
 
@@ -69,43 +54,42 @@ fn of_bits(bits: u32) -> f32 {
 
 // ---- f64 bits
 
-fn head64(label: &[u8], bits: u64) {
-    write(label);
-    write_bits64(bits);
-    write(b" ");
+fn head64(rt: &impl Print, label: &str, bits: u64) -> io::Result<()> {
+    write(rt, label)?;
+    write_bits64(rt, bits)?;
+    write(rt, " ")
 }
 
-fn narrow_line(bits: u64) {
-    head64(b"narrow ", bits);
-    write_bits32(num::narrow(bits));
-    write(b"\n");
+fn narrow_line(rt: &impl Print, bits: u64) -> io::Result<()> {
+    head64(rt, "narrow ", bits)?;
+    write_bits32(rt, num::narrow(bits))?;
+    write(rt, "\n")
 }
 
-fn f64_to_i32_line(bits: u64) {
-    head64(b"f64_to_i32 ", bits);
-    write_i32(num::f64_to_i32(bits));
-    write(b"\n");
+fn f64_to_i32_line(rt: &impl Print, bits: u64) -> io::Result<()> {
+    head64(rt, "f64_to_i32 ", bits)?;
+    write_i32(rt, num::f64_to_i32(bits))?;
+    write(rt, "\n")
 }
 
-fn take_number_line(bits: u64) {
-    head64(b"take_number ", bits);
-    write_number(num::take_number(bits));
-    write(b" ");
-    write_f32(num::double_narrowed(bits));
-    write(b"\n");
+fn take_number_line(rt: &impl Print, bits: u64) -> io::Result<()> {
+    head64(rt, "take_number ", bits)?;
+    write_number(rt, num::take_number(bits))?;
+    write(rt, " ")?;
+    write_f32(rt, num::double_narrowed(bits))?;
+    write(rt, "\n")
 }
 
-fn double_lines(xs: &[u64]) {
-    let mut i = 0;
-    while i < xs.len() {
-        narrow_line(xs[i]);
-        f64_to_i32_line(xs[i]);
-        take_number_line(xs[i]);
-        i += 1;
+fn double_lines(rt: &impl Print, xs: &[u64]) -> io::Result<()> {
+    for x in xs {
+        narrow_line(rt, *x)?;
+        f64_to_i32_line(rt, *x)?;
+        take_number_line(rt, *x)?;
     }
+    Ok(())
 }
 
-fn doubles() {
+fn doubles(rt: &impl Print) -> io::Result<()> {
     let xs: [u64; 48] = [
         // 1.1; ties between two f32, to the even one below and above; a neighbour of a tie on each side
         0x3ff1_9999_9999_999a,
@@ -164,68 +148,67 @@ fn doubles() {
         0x4200_0000_0000_0000,
         0x4330_0000_0000_0000,
     ];
-    double_lines(&xs);
+    double_lines(rt, &xs)
 }
 
 // ---- f32 bits
 
-fn head32(label: &[u8], bits: u32) {
-    write(label);
-    write_bits32(bits);
-    write(b" ");
+fn head32(rt: &impl Print, label: &str, bits: u32) -> io::Result<()> {
+    write(rt, label)?;
+    write_bits32(rt, bits)?;
+    write(rt, " ")
 }
 
-fn f32_to_i32_line(bits: u32) {
-    head32(b"f32_to_i32 ", bits);
-    write_i32(num::f32_to_i32(of_bits(bits)));
-    write(b"\n");
+fn f32_to_i32_line(rt: &impl Print, bits: u32) -> io::Result<()> {
+    head32(rt, "f32_to_i32 ", bits)?;
+    write_i32(rt, num::f32_to_i32(of_bits(bits)))?;
+    write(rt, "\n")
 }
 
-fn round_line(bits: u32) {
-    head32(b"round_f32 ", bits);
-    write_f32(num::round_f32(of_bits(bits)));
-    write(b"\n");
+fn round_line(rt: &impl Print, bits: u32) -> io::Result<()> {
+    head32(rt, "round_f32 ", bits)?;
+    write_f32(rt, num::round_f32(of_bits(bits)))?;
+    write(rt, "\n")
 }
 
-fn octaves_line(bits: u32) {
-    head32(b"octaves ", bits);
-    write_u32(num::octaves(of_bits(bits)));
-    write(b"\n");
+fn octaves_line(rt: &impl Print, bits: u32) -> io::Result<()> {
+    head32(rt, "octaves ", bits)?;
+    write_u32(rt, num::octaves(of_bits(bits)))?;
+    write(rt, "\n")
 }
 
-fn take_single_line(bits: u32) {
-    head32(b"take_single ", bits);
-    write_number(num::take_single(bits));
-    write(b" ");
-    write_f32(num::single(bits));
-    write(b"\n");
+fn take_single_line(rt: &impl Print, bits: u32) -> io::Result<()> {
+    head32(rt, "take_single ", bits)?;
+    write_number(rt, num::take_single(bits))?;
+    write(rt, " ")?;
+    write_f32(rt, num::single(bits))?;
+    write(rt, "\n")
 }
 
 // Near zero, finite, positive, sign.
-fn tests_line(bits: u32) {
+fn tests_line(rt: &impl Print, bits: u32) -> io::Result<()> {
     let x = of_bits(bits);
-    write(b"tests ");
-    write_bits32(bits);
-    write_bool(num::approx_zero_ulps(x));
-    write_bool(num::is_finite(x));
-    write_bool(num::is_positive(x));
-    write_bool(num::is_sign_negative(x));
-    write(b"\n");
+    write(rt, "tests ")?;
+    write_bits32(rt, bits)?;
+    write_bool(rt, num::approx_zero_ulps(x))?;
+    write_bool(rt, num::is_finite(x))?;
+    write_bool(rt, num::is_positive(x))?;
+    write_bool(rt, num::is_sign_negative(x))?;
+    write(rt, "\n")
 }
 
-fn single_lines(xs: &[u32]) {
-    let mut i = 0;
-    while i < xs.len() {
-        f32_to_i32_line(xs[i]);
-        round_line(xs[i]);
-        octaves_line(xs[i]);
-        take_single_line(xs[i]);
-        tests_line(xs[i]);
-        i += 1;
+fn single_lines(rt: &impl Print, xs: &[u32]) -> io::Result<()> {
+    for x in xs {
+        f32_to_i32_line(rt, *x)?;
+        round_line(rt, *x)?;
+        octaves_line(rt, *x)?;
+        take_single_line(rt, *x)?;
+        tests_line(rt, *x)?;
     }
+    Ok(())
 }
 
-fn singles() {
+fn singles(rt: &impl Print) -> io::Result<()> {
     let xs: [u32; 56] = [
         // zeros, the patterns 1 to 5, negative subnormals, the largest subnormal, the smallest normal
         0x0000_0000,
@@ -292,22 +275,21 @@ fn singles() {
         0x7fff_ffff,
         0xffff_ffff,
     ];
-    single_lines(&xs);
+    single_lines(rt, &xs)
 }
 
 // ---- octaves
 
 // With the sign clear, and with it set.
-fn octaves_lines(xs: &[u32]) {
-    let mut i = 0;
-    while i < xs.len() {
-        octaves_line(xs[i]);
-        octaves_line(xs[i] | 0x8000_0000);
-        i += 1;
+fn octaves_lines(rt: &impl Print, xs: &[u32]) -> io::Result<()> {
+    for x in xs {
+        octaves_line(rt, *x)?;
+        octaves_line(rt, *x | 0x8000_0000)?;
     }
+    Ok(())
 }
 
-fn halves() {
+fn halves(rt: &impl Print) -> io::Result<()> {
     let xs: [u32; 23] = [
         // the smallest subnormal
         0x0000_0001,
@@ -337,32 +319,31 @@ fn halves() {
         0x4f80_0000,
         0x4f80_0001,
     ];
-    octaves_lines(&xs);
+    octaves_lines(rt, &xs)
 }
 
 // ---- bounds
 
-fn bound_line(min: u32, val: u32, max: u32) {
-    write(b"f32_bound ");
-    write_bits32(min);
-    write(b" ");
-    head32(b"", val);
-    head32(b"", max);
-    write_f32(num::f32_bound(of_bits(min), of_bits(val), of_bits(max)));
-    write(b"\n");
+fn bound_line(rt: &impl Print, min: u32, val: u32, max: u32) -> io::Result<()> {
+    write(rt, "f32_bound ")?;
+    write_bits32(rt, min)?;
+    write(rt, " ")?;
+    head32(rt, "", val)?;
+    head32(rt, "", max)?;
+    write_f32(rt, num::f32_bound(of_bits(min), of_bits(val), of_bits(max)))?;
+    write(rt, "\n")
 }
 
 // Each value between 1 and 128, then between -0 and 1.
-fn bound_lines(xs: &[u32]) {
-    let mut i = 0;
-    while i < xs.len() {
-        bound_line(0x3f80_0000, xs[i], 0x4300_0000);
-        bound_line(0x8000_0000, xs[i], 0x3f80_0000);
-        i += 1;
+fn bound_lines(rt: &impl Print, xs: &[u32]) -> io::Result<()> {
+    for x in xs {
+        bound_line(rt, 0x3f80_0000, *x, 0x4300_0000)?;
+        bound_line(rt, 0x8000_0000, *x, 0x3f80_0000)?;
     }
+    Ok(())
 }
 
-fn bounds() {
+fn bounds(rt: &impl Print) -> io::Result<()> {
     let xs: [u32; 14] = [
         0x3f80_0000,
         0x3f7f_ffff,
@@ -379,41 +360,40 @@ fn bounds() {
         0x7fc0_0000,
         0xffc0_0000,
     ];
-    bound_lines(&xs);
+    bound_lines(rt, &xs)
 }
 
 // ---- lists
 
 // The list's length and the number at i.
-fn number_line(s: &[u8], at: u32, count: u16, i: u16) {
+fn number_line(rt: &impl Print, s: &[u8], at: u32, count: u16, i: u16) -> io::Result<()> {
     let ns = packed(at, count);
-    write(b"number_at ");
-    write_u32(bits::u16_to_u32(number_list::numbers_len(s, ns)));
-    write(b" ");
-    write_f32(number_list::number_at(s, ns, i));
-    write(b"\n");
+    write(rt, "number_at ")?;
+    write_u32(rt, bits::u16_to_u32(number_list::numbers_len(s, ns)))?;
+    write(rt, " ")?;
+    write_f32(rt, number_list::number_at(s, ns, i))?;
+    write(rt, "\n")
 }
 
-fn list_lines(s: &[u8], at: u32, count: u16) {
-    let mut i: u16 = 0;
-    while i < 6 {
-        number_line(s, at, count, i);
-        i += 1;
+fn list_lines(rt: &impl Print, s: &[u8], at: u32, count: u16) -> io::Result<()> {
+    for i in 0..6 {
+        number_line(rt, s, at, count, i)?;
     }
+    Ok(())
 }
 
 // 1, an infinity, -2 and two bytes of a fourth.
-fn lists() {
+fn lists(rt: &impl Print) -> io::Result<()> {
     let s: [u8; 14] = [0, 0, 128, 63, 0, 0, 128, 127, 0, 0, 0, 192, 0, 64];
-    list_lines(&s, 0, 5);
-    list_lines(&s, 8, 1);
-    list_lines(&s, 4294967295, 2);
+    list_lines(rt, &s, 0, 5)?;
+    list_lines(rt, &s, 8, 1)?;
+    list_lines(rt, &s, 4294967295, 2)
 }
 
-fn main() {
-    doubles();
-    singles();
-    halves();
-    bounds();
-    lists();
+fn main(rt: HostRuntime) -> io::Result<()> {
+    doubles(&rt)?;
+    singles(&rt)?;
+    halves(&rt)?;
+    bounds(&rt)?;
+    lists(&rt)
 }

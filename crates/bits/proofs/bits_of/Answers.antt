@@ -4,7 +4,6 @@ use mathlib.Core.Bool.{Bool, true, false, not}
 use lib.Dec.{T}
 use lib.Ieee.{Float, nan, inf, fin, ne, is_nan, to_bits}
 use lib.Ieee.Compare.{differs_from_itself, nan_differs}
-use borrow.Author.Rules.{rules}
 use Rattle.bits.proofs.bits_of.Goals as goal
 
 true_T : (b : Bool) → b ≡ true → T b

@@ -1,7 +1,6 @@
 -- Past the end `get_or` gives its default, 0. Assumes nothing.
 use mathlib.Core.Path.{sym}
 use lib.ListN.{get_or-eq_default}
-use borrow.Author.Rules.{rules}
 use Rattle.bits.proofs.byte.Goals as goal
 
 pub returns-else-at-s : goal.returns-else-at-s

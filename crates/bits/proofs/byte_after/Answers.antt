@@ -2,7 +2,6 @@
 use mathlib.Core.Path.{sym}
 use native.Mathlib.Omega.{arith}
 use lib.ListN.{get_or-eq_default}
-use borrow.Author.Rules.{rules}
 use Rattle.bits.proofs.byte_after.Goals as goal
 
 pub returns-else-at-s : goal.returns-else-at-s

@@ -1,11 +1,11 @@
 -- A part by `copy_part`; else invariant: the first j bytes of the run are written. Assumes nothing.
 use borrow.Author.Rules.{rules}
 use native.Mathlib.Omega.{arith}
-use Prim.Native.Nat.{◌+◌, ◌-◌, ◌≤◌}
+use Prim.Native.Nat.{◌+◌}
 use mathlib.Core.Path.{◌≡◌}
-use lib.ListN.{length, get_or}
+use lib.ListN.{get_or}
 use Rattle.bits.specs.Bytes.{bytes_from}
-use Rattle.bits.specs.Patch.{Put, patch}
+use Rattle.bits.specs.Patch.{patch}
 use Rattle.bits.proofs.Runs.{bytes_from_more}
 use Rattle.bits.proofs.Patches.{◌then◌}
 use Rattle.bits.proofs.copy.Goals as goal

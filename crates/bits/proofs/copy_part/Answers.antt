@@ -1,11 +1,9 @@
 -- Invariant: the first j bytes of the run are written. Assumes nothing.
 use borrow.Author.Rules.{rules}
 use native.Mathlib.Omega.{arith}
-use Prim.Native.Nat.{◌-◌, ◌≤◌}
 use mathlib.Core.Path.{◌≡◌}
-use lib.ListN.{length}
 use Rattle.bits.specs.Bytes.{bytes_from}
-use Rattle.bits.specs.Patch.{Put, patch}
+use Rattle.bits.specs.Patch.{patch}
 use Rattle.bits.proofs.Runs.{bytes_from_more}
 use Rattle.bits.proofs.Patches.{◌then◌}
 use Rattle.bits.proofs.copy_part.Goals as goal

@@ -1,12 +1,8 @@
-use borrow.Author.Rules.{rules}
-use native.Mathlib.Omega.{arith}
 use Prim.Native.Nat.{◌-◌, ◌≤◌}
 use mathlib.Core.Path.{◌≡◌}
 use lib.ListN.{length}
 use Rattle.bits.specs.Bytes.{bytes_from}
-use Rattle.bits.specs.Patch.{Put, patch}
-use Rattle.bits.proofs.Runs.{bytes_from_more}
-use Rattle.bits.proofs.Patches.{◌then◌}
+use Rattle.bits.specs.Patch.{Put}
 use Rattle.bits.proofs.copy_part.Given as goal
 
 abbrev pub invariant-loop-j : goal.invariant-loop-j

@@ -4,7 +4,6 @@ use Prim.Native.Nat.{◌+◌}
 use native.Mathlib.Omega.{arith}
 use lib.ListN.{get_or, get_or-eq_default}
 use Rattle.bits.specs.Bytes.{le32}
-use borrow.Author.Rules.{rules}
 use Rattle.bits.proofs.get32_after4.Goals as goal
 
 pub returns-else-at-s : goal.returns-else-at-s

@@ -2,7 +2,6 @@
 use borrow.Author.Tests.{ne_eqb}
 use Rattle.bits.specs.Due.{utf8_due}
 use Rattle.bits.specs.Utf8.{utf8_step}
-use borrow.Author.Rules.{rules}
 use Rattle.bits.proofs.next_state.Goals as goal
 
 pub returns-in-0 : goal.returns-in-0

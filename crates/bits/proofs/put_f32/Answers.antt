@@ -1,5 +1,4 @@
 -- The four bytes of the number's bits. Assumes nothing.
-use borrow.Author.Rules.{rules}
 use Rattle.bits.proofs.put_f32.Goals as goal
 
 pub returns : goal.returns

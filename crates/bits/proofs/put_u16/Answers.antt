@@ -1,7 +1,6 @@
 -- Two writers in a row are one. Assumes nothing.
 use Rattle.bits.proofs.Patches.{◌then◌}
 use Rattle.bits.specs.Bytes.{bytes16}
-use borrow.Author.Rules.{rules}
 use Rattle.bits.proofs.put_u16.Goals as goal
 
 pub returns : goal.returns

@@ -1,7 +1,6 @@
 -- Four writers in a row are one. Assumes nothing.
 use Rattle.bits.proofs.Patches.{◌then◌}
 use Rattle.bits.specs.Bytes.{bytes32}
-use borrow.Author.Rules.{rules}
 use Rattle.bits.proofs.put_u32.Goals as goal
 
 pub returns : goal.returns

@@ -2,10 +2,9 @@
 use borrow.Author.Rules.{rules}
 use borrow.Author.Tests.{eq-eqb, ne_eqb}
 use native.Mathlib.Omega.{arith}
-use Prim.Native.Nat.{◌+◌, ◌-◌, ◌^◌, ◌<◌, ◌≤◌}
+use Prim.Native.Nat.{◌-◌}
 use mathlib.Core.Path.{◌≡◌, sym, ◌∙◌}
-use lib.ListN.{length, drop, get_or}
-use Rattle.bits.specs.Bytes.{bytes_from, same}
+use lib.ListN.{length, get_or}
 use Rattle.bits.proofs.Sameness.{same_run_length, same_step, same_end}
 use Rattle.bits.proofs.run_is.Goals as goal
 

@@ -1,11 +1,7 @@
-use borrow.Author.Rules.{rules}
-use borrow.Author.Tests.{eq-eqb, ne_eqb}
-use native.Mathlib.Omega.{arith}
 use Prim.Native.Nat.{◌+◌, ◌-◌, ◌^◌, ◌<◌, ◌≤◌}
-use mathlib.Core.Path.{◌≡◌, sym, ◌∙◌}
-use lib.ListN.{length, drop, get_or}
+use mathlib.Core.Path.{◌≡◌}
+use lib.ListN.{length, drop}
 use Rattle.bits.specs.Bytes.{bytes_from, same}
-use Rattle.bits.proofs.Sameness.{same_run_length, same_step, same_end}
 use Rattle.bits.proofs.run_is.Given as goal
 
 abbrev pub invariant-loop-j : goal.invariant-loop-j

@@ -1,12 +1,6 @@
-use Rattle.bits.proofs.Sameness.{runs_as, same_run_length, runs_step, runs_end}
-use borrow.Author.Rules.{rules}
-use borrow.Author.Tests.{eq-eqb, ne_eqb}
-use native.Mathlib.Omega.{arith}
 use Prim.Native.Nat.{◌+◌, ◌<◌, ◌≤◌}
-use mathlib.Core.Path.{◌≡◌, sym, ◌∙◌}
-use lib.ListN.{get_or}
+use mathlib.Core.Path.{◌≡◌}
 use Rattle.bits.specs.Bytes.{bytes_from, same}
-use Rattle.bits.proofs.Runs.{length-bytes_from}
 use Rattle.bits.proofs.same_text.Given as goal
 
 abbrev pub invariant-loop-left : goal.invariant-loop-left

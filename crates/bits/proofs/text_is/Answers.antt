@@ -1,5 +1,4 @@
 -- A text is the run at its place. Assumes nothing.
-use borrow.Author.Rules.{rules}
 use Rattle.bits.proofs.text_is.Goals as goal
 
 pub returns : goal.returns

@@ -1,7 +1,6 @@
 -- Outside the limits it is +0. Within them the bits are those of the one rounding, and the narrowing reads the f64 back from them. Assumes nothing.
 use Rattle.decimal.proofs.Held.{held_within, value_refused, value_is}
 use Rattle.decimal.specs.Means.{double_held}
-use borrow.Author.Tests.{not-true, not-false}
 use mathlib.Core.Path.{sym, ◌∙◌}
 use borrow.Author.Rules.{rules}
 use Rattle.decimal.proofs.decimal_value.Goals as goal

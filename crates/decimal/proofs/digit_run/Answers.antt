@@ -1,9 +1,8 @@
 -- Invariant: the digits are those that were passed and the rest, and their number, held, is that of the rest after `w` (`Going`). Assumes nothing.
-use Rattle.decimal.proofs.Running.{Going, going_start, going_step, going_stop, going_end}
+use Rattle.decimal.proofs.Running.{going_start, going_step, going_stop, going_end}
 use Rattle.decimal.specs.Grammar.{is_digit}
 use Rattle.decimal.proofs.Counts.{digit_range}
 use lib.Dec.{T}
-use borrow.Author.Tests.{not-true, not-false}
 use mathlib.Core.Path.{◌≡◌, sym, ◌∙◌, ap, subst}
 use mathlib.Core.Bool.{true}
 use native.Mathlib.Omega.{arith}

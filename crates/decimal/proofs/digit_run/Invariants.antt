@@ -1,12 +1,4 @@
-use Rattle.decimal.proofs.Running.{Going, going_start, going_step, going_stop, going_end}
-use Rattle.decimal.specs.Grammar.{is_digit}
-use Rattle.decimal.proofs.Counts.{digit_range}
-use lib.Dec.{T}
-use borrow.Author.Tests.{not-true, not-false}
-use mathlib.Core.Path.{◌≡◌, sym, ◌∙◌, ap, subst}
-use mathlib.Core.Bool.{true}
-use native.Mathlib.Omega.{arith}
-use borrow.Author.Rules.{rules}
+use Rattle.decimal.proofs.Running.{Going}
 use Rattle.decimal.proofs.digit_run.Given as goal
 
 abbrev pub invariant-loop-l : goal.invariant-loop-l

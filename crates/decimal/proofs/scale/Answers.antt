@@ -1,7 +1,6 @@
 -- At the end there is no exponent. Else an `e` must stand there, then a sign or none, then one digit at least, and then the end. Assumes nothing.
 use Rattle.decimal.proofs.Scales.{scale_end, scale_other, scale_none, scale_more, scale_is}
 use Rattle.decimal.specs.Grammar.{is_e}
-use borrow.Author.Tests.{not-true, not-false}
 use mathlib.Core.Path.{sym, ◌∙◌, ap}
 use native.Mathlib.Omega.{arith}
 use borrow.Author.Rules.{rules}

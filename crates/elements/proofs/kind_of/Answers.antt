@@ -8,7 +8,6 @@ use Rattle.names.specs.Ids.{eid_fe_component_transfer, eid_fe_color_matrix, eid_
 use Rattle.svgtree.specs.Parse.{node_from, nodes_from}
 use Rattle.elements.specs.Elements.{by_tag}
 use Rattle.elements.proofs.ByTag.{kind_tag, made_by}
-use borrow.Author.Rules.{rules}
 use Rattle.elements.proofs.kind_of.Goals as goal
 
 pub returns-in-14 : goal.returns-in-14

@@ -1,7 +1,6 @@
 -- The fields, or the refusal. Assumes nothing.
 use mathlib.Core.Path.{refl}
 use native.Mathlib.Omega.{arith}
-use borrow.Author.Rules.{rules}
 use Rattle.elements.proofs.make_turbulence.Goals as goal
 
 pub returns-in-Is : goal.returns-in-Is

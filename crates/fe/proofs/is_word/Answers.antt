@@ -1,5 +1,4 @@
 -- A text that is there is compared with the word; an absent one is no word. Assumes nothing.
-use borrow.Author.Rules.{rules}
 use Rattle.fe.proofs.is_word.Goals as goal
 
 pub returns-in-Is : goal.returns-in-Is

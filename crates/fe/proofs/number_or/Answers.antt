@@ -1,5 +1,4 @@
 -- The number that the getter reads, or the default. Assumes nothing.
-use borrow.Author.Rules.{rules}
 use Rattle.fe.proofs.number_or.Goals as goal
 
 pub returns : goal.returns

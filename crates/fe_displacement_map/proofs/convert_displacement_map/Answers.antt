@@ -1,6 +1,5 @@
 -- The test of the code is that of the definition. Assumes nothing.
 use mathlib.Core.Path.{sym, ◌∙◌}
-use borrow.Author.Rules.{rules}
 use Rattle.fe_displacement_map.proofs.convert_displacement_map.Goals as goal
 
 pub returns-then-is_finite : goal.returns-then-is_finite

@@ -1,5 +1,4 @@
 -- The number and both channels are read, each as its call's contract has it. Assumes nothing.
-use borrow.Author.Rules.{rules}
 use Rattle.fe_displacement_map.proofs.displacement_map.Goals as goal
 
 pub returns : goal.returns

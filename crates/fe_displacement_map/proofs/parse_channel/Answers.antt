@@ -1,6 +1,5 @@
 -- The text is compared with the words of the table, one after the other. Assumes nothing.
 use Rattle.fe.proofs.Keywords.{hit, miss, other}
-use borrow.Author.Rules.{rules}
 use Rattle.fe_displacement_map.proofs.parse_channel.Goals as goal
 
 pub returns-then-is_word : goal.returns-then-is_word

@@ -1,5 +1,4 @@
 -- The colour is read, split and multiplied as the definition has it: the calls' contracts, one after the other. Assumes nothing.
-use borrow.Author.Rules.{rules}
 use Rattle.fe_flood.proofs.convert_flood.Goals as goal
 
 pub returns : goal.returns

@@ -1,5 +1,4 @@
 -- By cases on whether the colour is there. Assumes nothing.
-use borrow.Author.Rules.{rules}
 use Rattle.fe_flood.proofs.or_black.Goals as goal
 
 pub returns-in-No : goal.returns-in-No

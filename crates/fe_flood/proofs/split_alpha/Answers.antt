@@ -1,7 +1,6 @@
 -- The code's operations are the definition's. Assumes nothing.
 use mathlib.Core.Path.{refl}
 use Rattle.fe_flood.specs.Flood.{alpha_opacity}
-use borrow.Author.Rules.{rules}
 use Rattle.fe_flood.proofs.split_alpha.Goals as goal
 
 pub returns : goal.returns

@@ -1,5 +1,4 @@
 -- By cases on whether the radius was refused. Assumes nothing.
-use borrow.Author.Rules.{rules}
 use Rattle.fe_morphology.proofs.convert_morphology.Goals as goal
 
 pub returns-in-Is : goal.returns-in-Is

@@ -1,7 +1,6 @@
 -- The test of the code is that of the definition. Assumes nothing.
 use mathlib.Core.Path.{sym, ◌∙◌}
 use Rattle.fe_morphology.specs.Morphology.{one_for_zero}
-use borrow.Author.Rules.{rules}
 use Rattle.fe_morphology.proofs.one_for_zero.Goals as goal
 
 pub returns-then-approx_zero_ulps : goal.returns-then-approx_zero_ulps

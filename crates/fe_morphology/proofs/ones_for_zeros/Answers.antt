@@ -1,5 +1,4 @@
 -- Each radius by itself. Assumes nothing.
-use borrow.Author.Rules.{rules}
 use Rattle.fe_morphology.proofs.ones_for_zeros.Goals as goal
 
 pub returns : goal.returns

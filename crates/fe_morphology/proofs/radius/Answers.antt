@@ -2,7 +2,6 @@
 use mathlib.Core.Path.{◌∙◌, ap}
 use Rattle.fe.specs.declared.pair.Pair.{Pair}
 use Rattle.fe_morphology.specs.Morphology.{ones_for_zeros, radius_from}
-use borrow.Author.Rules.{rules}
 use Rattle.fe_morphology.proofs.radius.Goals as goal
 
 pub returns-in-Is : goal.returns-in-Is

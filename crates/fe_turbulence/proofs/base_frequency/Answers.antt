@@ -1,5 +1,4 @@
 -- By cases on whether the list is there; where it is, the calls' contracts follow one another. Assumes nothing.
-use borrow.Author.Rules.{rules}
 use Rattle.fe_turbulence.proofs.base_frequency.Goals as goal
 
 pub returns-in-Is : goal.returns-in-Is

@@ -1,5 +1,4 @@
 -- By cases on whether the base frequency was refused. Assumes nothing.
-use borrow.Author.Rules.{rules}
 use Rattle.fe_turbulence.proofs.convert_turbulence.Goals as goal
 
 pub returns-in-Is : goal.returns-in-Is

@@ -1,6 +1,5 @@
 -- The test of the code is that of the definition. Assumes nothing.
 use mathlib.Core.Path.{sym, ◌∙◌}
-use borrow.Author.Rules.{rules}
 use Rattle.fe_turbulence.proofs.frequency_from.Goals as goal
 
 pub returns-then-signs_clear : goal.returns-then-signs_clear

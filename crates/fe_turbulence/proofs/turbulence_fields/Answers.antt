@@ -7,7 +7,6 @@ use mathlib.Core.Option.{Option}
 use Prim.Native.Nat.{ℕ}
 use Rattle.bits.specs.Words.{word}
 use Rattle.fe.specs.Attributes.{is_word}
-use borrow.Author.Rules.{rules}
 use Rattle.fe_turbulence.proofs.turbulence_fields.Goals as goal
 
 pub returns : goal.returns

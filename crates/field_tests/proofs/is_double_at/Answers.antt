@@ -1,7 +1,6 @@
 -- What is finite when narrowed is finite as given. Assumes nothing.
 use mathlib.Core.Path.{◌∙◌, sym}
 use Rattle.field_tests.proofs.Finiteness.{double_narrowed, finite_no, finite_yes}
-use borrow.Author.Rules.{rules}
 use Rattle.field_tests.proofs.is_double_at.Goals as goal
 
 pub returns-in-Finite : goal.returns-in-Finite

@@ -1,7 +1,6 @@
 -- `take_single` tells a finite number from any other. Assumes nothing.
 use mathlib.Core.Path.{◌∙◌, sym}
 use Rattle.field_tests.proofs.Finiteness.{finite_no, finite_yes}
-use borrow.Author.Rules.{rules}
 use Rattle.field_tests.proofs.is_finite_at.Goals as goal
 
 pub returns-in-Finite : goal.returns-in-Finite

@@ -2,7 +2,6 @@
 use mathlib.Core.Path.{ap}
 use mathlib.Core.Bool.{not}
 use Rattle.num.specs.Sign.{opacity_in}
-use borrow.Author.Rules.{rules}
 use Rattle.field_tests.proofs.is_opacity.Goals as goal
 
 pub returns-then-x-2 : goal.returns-then-x-2

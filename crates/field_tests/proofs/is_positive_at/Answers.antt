@@ -1,7 +1,6 @@
 -- A number that is not finite is not positive. Assumes nothing.
 use mathlib.Core.Path.{◌∙◌, sym}
 use Rattle.field_tests.proofs.Finiteness.{finite_is, finite_no, finite_yes}
-use borrow.Author.Rules.{rules}
 use Rattle.field_tests.proofs.is_positive_at.Goals as goal
 
 pub returns-in-Finite : goal.returns-in-Finite

@@ -2,7 +2,6 @@
 use mathlib.Core.Path.{◌∙◌, ap, sym}
 use Rattle.field_tests.proofs.Finiteness.{finite_is, finite_no, no_length}
 use Rattle.geom.specs.Geometry.{valid_length}
-use borrow.Author.Rules.{rules}
 use Rattle.field_tests.proofs.is_valid_length_at.Goals as goal
 
 pub returns-in-Finite : goal.returns-in-Finite

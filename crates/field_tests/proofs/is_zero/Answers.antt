@@ -1,11 +1,8 @@
 -- Invariant: the test of all bytes is the test of those that are left. Assumes nothing.
-use Prim.Native.Nat.{◌+◌, ◌≤◌}
-use Rattle.field_tests.specs.Tests.{zeros}
 use Rattle.field_tests.proofs.Zeros.{zeros_none, zeros_step}
 use borrow.Author.Rules.{rules}
 use mathlib.Core.Path.{◌∙◌, ◌≡◌, sym}
 use native.Mathlib.Omega.{arith}
-use Rattle.bits.specs.Bytes.{bytes_from}
 use borrow.Author.Tests.{eq-eqb, ne_eqb}
 use lib.Dec.{eqb}
 use mathlib.Core.Bool.{false, true}

@@ -1,7 +1,6 @@
 -- By cases on the mark. Assumes nothing.
 use Rattle.field_tests.specs.Tests.{marked_ok}
 use borrow.Author.Tests.{eq-eqb, ne_eqb}
-use borrow.Author.Rules.{rules}
 use Rattle.field_tests.proofs.marked_ok.Goals as goal
 
 pub returns-then-mark-eq1 : goal.returns-then-mark-eq1

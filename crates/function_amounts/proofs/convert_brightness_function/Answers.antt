@@ -4,7 +4,6 @@ use lib.Ieee.{Float}
 use Rattle.num.specs.Means.{double_of}
 use Rattle.tree.specs.declared.TransferFunction.TheVariants.{Linear}
 use Rattle.num.specs.Constants.{plus_zero as zero}
-use borrow.Author.Rules.{rules}
 use Rattle.function_amounts.proofs.convert_brightness_function.Goals as goal
 
 pub returns : goal.returns

@@ -4,7 +4,6 @@ use lib.Ieee.{Float, of_bits, round}
 use Rattle.num.specs.Means.{double_of}
 use Rattle.tree.specs.declared.TransferFunction.TheVariants.{Linear}
 use Rattle.function_amounts.specs.Amounts.{contrast_intercept}
-use borrow.Author.Rules.{rules}
 use Rattle.function_amounts.proofs.convert_contrast_function.Goals as goal
 
 pub returns : goal.returns

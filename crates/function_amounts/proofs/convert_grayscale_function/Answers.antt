@@ -2,7 +2,6 @@
 use mathlib.Core.Path.{ap}
 use lib.Ieee.{of_bits, round}
 use Rattle.function_amounts.specs.Amounts.{grayscale_matrix}
-use borrow.Author.Rules.{rules}
 use Rattle.function_amounts.proofs.convert_grayscale_function.Goals as goal
 
 pub returns : goal.returns

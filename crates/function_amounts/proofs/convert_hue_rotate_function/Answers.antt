@@ -1,6 +1,5 @@
 -- The narrowed number is the definition's. Assumes nothing.
 use Rattle.num.specs.Means.{double_of}
-use borrow.Author.Rules.{rules}
 use Rattle.function_amounts.proofs.convert_hue_rotate_function.Goals as goal
 
 pub returns : goal.returns

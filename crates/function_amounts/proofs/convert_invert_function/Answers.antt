@@ -1,7 +1,6 @@
 -- The code's operations are the definition's, on the held amount. Assumes nothing.
 use mathlib.Core.Path.{ap}
 use Rattle.function_amounts.specs.Amounts.{invert_table}
-use borrow.Author.Rules.{rules}
 use Rattle.function_amounts.proofs.convert_invert_function.Goals as goal
 
 pub returns : goal.returns

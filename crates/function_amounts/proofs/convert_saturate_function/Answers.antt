@@ -2,7 +2,6 @@
 use mathlib.Core.Path.{ap, ◌∙◌}
 use Rattle.num.specs.Means.{double_of}
 use Rattle.function_amounts.specs.Amounts.{positive_or_zero}
-use borrow.Author.Rules.{rules}
 use Rattle.function_amounts.proofs.convert_saturate_function.Goals as goal
 
 pub returns : goal.returns

@@ -2,7 +2,6 @@
 use mathlib.Core.Path.{sym, ◌∙◌}
 use Rattle.num.specs.Means.{double_of}
 use Rattle.function_amounts.specs.Amounts.{held}
-use borrow.Author.Rules.{rules}
 use Rattle.function_amounts.proofs.held_at_one.Goals as goal
 
 pub returns-then-is_above_one : goal.returns-then-is_above_one

@@ -1,6 +1,5 @@
 -- A pattern above the infinity's is a NaN's, which is not above 1; of any other pattern the comparison is the definition's. Assumes nothing.
 use Rattle.function_amounts.proofs.Amounts.{no_nan, nan_not_above}
-use borrow.Author.Rules.{rules}
 use Rattle.function_amounts.proofs.is_above_one.Goals as goal
 
 pub float_from_bits-result : goal.float_from_bits-result

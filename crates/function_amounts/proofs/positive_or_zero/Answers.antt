@@ -1,7 +1,6 @@
 -- By cases on the test. Assumes nothing.
 use mathlib.Core.Path.{sym, ◌∙◌}
 use Rattle.function_amounts.specs.Amounts.{positive_or_zero}
-use borrow.Author.Rules.{rules}
 use Rattle.function_amounts.proofs.positive_or_zero.Goals as goal
 
 pub returns-then-is_positive : goal.returns-then-is_positive

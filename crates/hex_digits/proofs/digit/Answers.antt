@@ -4,7 +4,6 @@ use Prim.Native.Nat.{ℕ}
 use lib.ListN.{get_or}
 use Rattle.bits.specs.Words.{word}
 use Rattle.hex_digits.specs.Hex.{glyph}
-use borrow.Author.Rules.{rules}
 use Rattle.hex_digits.proofs.digit.Goals as goal
 
 pub returns : goal.returns

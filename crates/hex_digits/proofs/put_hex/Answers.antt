@@ -1,13 +1,13 @@
 -- Invariant: the first j bytes are written as digits. Each turn adds a byte to those and its two digits to what is written. Assumes nothing.
 use borrow.Author.Rules.{rules}
 use native.Mathlib.Omega.{arith}
-use Prim.Native.Nat.{ℕ, ◌*◌, ◌-◌, ◌/◌, ◌%◌, ◌≤◌, ◌<◌}
+use Prim.Native.Nat.{ℕ, ◌/◌, ◌%◌, ◌<◌}
 use mathlib.Core.Path.{◌≡◌, sym, ap, ◌∙◌}
 use lib.ListN.{length, get_or, take}
 use lib.Seq.{take_all}
 use Rattle.hex_digits.specs.Hex.{glyph, hex_of}
 use Rattle.hex_digits.proofs.Laws.{hex_more}
-use Rattle.bits.specs.Patch.{Put, patch}
+use Rattle.bits.specs.Patch.{patch}
 use Rattle.bits.proofs.Patches.{◌then◌, ◌counted◌}
 use Rattle.hex_digits.proofs.put_hex.Goals as goal
 

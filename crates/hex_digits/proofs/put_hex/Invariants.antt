@@ -1,13 +1,8 @@
-use borrow.Author.Rules.{rules}
-use native.Mathlib.Omega.{arith}
-use Prim.Native.Nat.{ℕ, ◌*◌, ◌-◌, ◌/◌, ◌%◌, ◌≤◌, ◌<◌}
-use mathlib.Core.Path.{◌≡◌, sym, ap, ◌∙◌}
-use lib.ListN.{length, get_or, take}
-use lib.Seq.{take_all}
-use Rattle.hex_digits.specs.Hex.{glyph, hex_of}
-use Rattle.hex_digits.proofs.Laws.{hex_more}
-use Rattle.bits.specs.Patch.{Put, patch}
-use Rattle.bits.proofs.Patches.{◌then◌, ◌counted◌}
+use Prim.Native.Nat.{◌*◌, ◌-◌, ◌≤◌}
+use mathlib.Core.Path.{◌≡◌}
+use lib.ListN.{length, take}
+use Rattle.hex_digits.specs.Hex.{hex_of}
+use Rattle.bits.specs.Patch.{Put}
 use Rattle.hex_digits.proofs.put_hex.Given as goal
 
 abbrev pub invariant-loop-j : goal.invariant-loop-j

@@ -1,6 +1,5 @@
 -- The digits, and one byte behind them. Assumes nothing.
 use Rattle.bits.proofs.Patches.{◌then◌}
-use borrow.Author.Rules.{rules}
 use Rattle.hex_digits.proofs.put_hex_line.Goals as goal
 
 pub returns : goal.returns

@@ -7,7 +7,6 @@ use Rattle.tree.specs.Sizes.{field_size}
 use Rattle.tree.proofs.Lengths.{length_fields}
 use Rattle.child.specs.Means.{kind_is}
 use Rattle.child.specs.declared.Kind.{Kind}
-use borrow.Author.Rules.{rules}
 use Rattle.list_fields.proofs.fields_size.Goals as goal
 
 pub returns-in-Blend : goal.returns-in-Blend

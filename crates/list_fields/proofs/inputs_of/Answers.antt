@@ -1,5 +1,4 @@
 -- Each arm knows its kind, and has the inputs of that kind. Assumes nothing.
-use borrow.Author.Rules.{rules}
 use Rattle.list_fields.proofs.inputs_of.Goals as goal
 
 pub returns-in-Blend : goal.returns-in-Blend

@@ -1,5 +1,4 @@
 -- Each arm is the place of the variant that it matched. Assumes nothing.
-use borrow.Author.Rules.{rules}
 use Rattle.list_fields.proofs.kind_place.Goals as goal
 
 pub returns-in-Blend : goal.returns-in-Blend

@@ -2,7 +2,6 @@
 use mathlib.Core.Path.{◌∙◌, ap}
 use Rattle.list_layout.specs.After.{place_is, after_bytes}
 use Rattle.list_layout.proofs.Walking.{any_is}
-use borrow.Author.Rules.{rules}
 use Rattle.list_layout.proofs.after_any.Goals as goal
 
 pub returns : goal.returns

@@ -1,7 +1,6 @@
 -- The place is below the number of cases, and each arm passes the items of its case: `enum_case`. The last arm has none. Assumes nothing.
 use native.Mathlib.Omega.{arith}
 use Rattle.list_layout.proofs.Walking.{enum_case, enum_else, matrix_else}
-use borrow.Author.Rules.{rules}
 use Rattle.list_layout.proofs.after_color_matrix_kind.Goals as goal
 
 pub returns-in-0 : goal.returns-in-0

@@ -2,7 +2,6 @@
 use mathlib.Core.Path.{ap, ◌∙◌}
 use Rattle.list_layout.specs.After.{after_field}
 use Rattle.list_read.specs.Layout.{transfer_function, layout_of}
-use borrow.Author.Rules.{rules}
 use Rattle.list_layout.proofs.after_component_transfer.Goals as goal
 
 pub returns : goal.returns

@@ -1,6 +1,5 @@
 -- The place is below the number of cases, and each arm passes the items of its case: `enum_case`. The last arm has none. Assumes nothing.
 use Rattle.list_layout.proofs.Walking.{enum_case, enum_else, composite_else}
-use borrow.Author.Rules.{rules}
 use Rattle.list_layout.proofs.after_composite_operator.Goals as goal
 
 pub returns-in-6 : goal.returns-in-6

@@ -3,7 +3,6 @@ use mathlib.Core.Path.{refl, ap, ◌∙◌}
 use Rattle.list_layout.specs.After.{after_item}
 use Rattle.list_layout.proofs.Walking.{fields_of, no_layout}
 use Rattle.list_read.specs.Layout.{byte_below, any_bytes, f32s, layout_of}
-use borrow.Author.Rules.{rules}
 use Rattle.list_layout.proofs.after_fields.Goals as goal
 
 pub returns-in-0 : goal.returns-in-0

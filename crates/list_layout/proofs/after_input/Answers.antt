@@ -2,7 +2,6 @@
 use mathlib.Core.Path.{◌∙◌, ap}
 use Rattle.list_layout.specs.After.{place_is, after_reference}
 use Rattle.list_layout.proofs.Walking.{input_reference, input_source}
-use borrow.Author.Rules.{rules}
 use Rattle.list_layout.proofs.after_input.Goals as goal
 
 pub returns-then-k-eq2 : goal.returns-then-k-eq2

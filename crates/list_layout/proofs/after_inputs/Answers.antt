@@ -1,6 +1,6 @@
 -- Invariant: what is left after all inputs is what is left after those still to come. Assumes nothing.
 use borrow.Author.Rules.{rules}
-use mathlib.Core.Path.{◌≡◌, refl, sym, ◌∙◌, ap}
+use mathlib.Core.Path.{refl, sym, ◌∙◌, ap}
 use native.Mathlib.Omega.{arith}
 use Rattle.list_layout.specs.After.{place_is, after_inputs}
 use Rattle.list_layout.proofs.Walking.{inputs_step, inputs_end_lem}

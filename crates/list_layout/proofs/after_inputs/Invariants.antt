@@ -1,8 +1,5 @@
-use borrow.Author.Rules.{rules}
-use mathlib.Core.Path.{◌≡◌, refl, sym, ◌∙◌, ap}
-use native.Mathlib.Omega.{arith}
+use mathlib.Core.Path.{◌≡◌}
 use Rattle.list_layout.specs.After.{place_is, after_inputs}
-use Rattle.list_layout.proofs.Walking.{inputs_step, inputs_end_lem}
 use Rattle.list_layout.proofs.after_inputs.Given as goal
 
 abbrev pub invariant-loop-left : goal.invariant-loop-left

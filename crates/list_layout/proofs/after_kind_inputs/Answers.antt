@@ -3,7 +3,6 @@ use mathlib.Core.Path.{◌∙◌}
 use Rattle.list_read.specs.Layout.{layout_of}
 use Rattle.list_layout.specs.After.{place_is}
 use Rattle.list_layout.proofs.Walking.{inputs_are, no_layout}
-use borrow.Author.Rules.{rules}
 use Rattle.list_layout.proofs.after_kind_inputs.Goals as goal
 
 pub returns-in-0 : goal.returns-in-0

@@ -4,7 +4,6 @@ use native.Mathlib.Omega.{arith}
 use Rattle.list_layout.specs.After.{after_item}
 use Rattle.list_read.specs.Layout.{option}
 use Rattle.list_layout.proofs.Walking.{enum_case, enum_else, light_else}
-use borrow.Author.Rules.{rules}
 use Rattle.list_layout.proofs.after_light_source.Goals as goal
 
 pub returns-in-0 : goal.returns-in-0

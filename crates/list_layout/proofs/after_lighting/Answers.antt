@@ -2,7 +2,6 @@
 use mathlib.Core.Path.{ap, ◌∙◌}
 use Rattle.list_layout.specs.After.{after_item, after_field}
 use Rattle.list_read.specs.Layout.{any_bytes, light_source}
-use borrow.Author.Rules.{rules}
 use Rattle.list_layout.proofs.after_lighting.Goals as goal
 
 pub returns : goal.returns

@@ -3,7 +3,6 @@ use mathlib.Core.Path.{◌∙◌, ap}
 use Prim.Native.Nat.{◌*◌}
 use Rattle.list_layout.specs.After.{place_is, after_bytes}
 use Rattle.list_layout.proofs.Walking.{f32s_are}
-use borrow.Author.Rules.{rules}
 use Rattle.list_layout.proofs.after_numbers.Goals as goal
 
 pub returns : goal.returns

@@ -3,7 +3,6 @@ use mathlib.Core.Path.{◌∙◌, ap}
 use Rattle.list_layout.proofs.Walking.{option_is}
 use Rattle.list_layout.specs.After.{place_is, after_item}
 use Rattle.list_read.specs.Layout.{f32s}
-use borrow.Author.Rules.{rules}
 use Rattle.list_layout.proofs.after_option.Goals as goal
 
 pub returns : goal.returns

@@ -2,7 +2,6 @@
 use mathlib.Core.Path.{◌∙◌}
 use Rattle.list_layout.specs.After.{place_is}
 use Rattle.list_layout.proofs.Walking.{reference_one, reference_two}
-use borrow.Author.Rules.{rules}
 use Rattle.list_layout.proofs.after_reference.Goals as goal
 
 pub returns-in-One : goal.returns-in-One

@@ -1,6 +1,5 @@
 -- The place is below the number of cases, and each arm passes the items of its case: `enum_case`. The last arm has none. Assumes nothing.
 use Rattle.list_layout.proofs.Walking.{enum_case, enum_else, transfer_else}
-use borrow.Author.Rules.{rules}
 use Rattle.list_layout.proofs.after_transfer_function.Goals as goal
 
 pub returns-in-1 : goal.returns-in-1

@@ -2,7 +2,6 @@
 use mathlib.Core.Path.{ap, ◌∙◌}
 use Rattle.list_layout.specs.After.{after_item}
 use Rattle.list_read.specs.Layout.{byte_below, any_bytes, layout_of}
-use borrow.Author.Rules.{rules}
 use Rattle.list_layout.proofs.after_turbulence.Goals as goal
 
 pub returns : goal.returns

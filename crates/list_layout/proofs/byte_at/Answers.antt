@@ -1,6 +1,5 @@
 -- The byte at a place is the first of what is left there: `first_byte`. Assumes nothing.
 use Rattle.list_layout.proofs.Walking.{first_byte}
-use borrow.Author.Rules.{rules}
 use Rattle.list_layout.proofs.byte_at.Goals as goal
 
 pub returns-in-At : goal.returns-in-At

@@ -1,11 +1,10 @@
 -- Invariant: all records are in the layout if those still to come are. One law for each test: `records_offset`, `records_size`, `records_outside`, `records_next`. Assumes nothing.
 use borrow.Author.Rules.{rules}
-use Prim.Native.Nat.{◌+◌, ◌*◌, ◌-◌, ◌≤◌}
+use Prim.Native.Nat.{◌+◌, ◌-◌}
 use mathlib.Core.Path.{◌≡◌, refl, sym, ◌∙◌}
 use native.Mathlib.Omega.{arith}
-use borrow.Author.Tests.{not-true, not-false}
 use Rattle.bits.specs.Bytes.{le32}
-use Rattle.list_layout.proofs.Listing.{records_at, records_offset, records_size, records_outside, records_next, records_end}
+use Rattle.list_layout.proofs.Listing.{records_offset, records_size, records_outside, records_next, records_end}
 use Rattle.list_layout.proofs.records_in_layout.Goals as goal
 
 pub loop-left-init : goal.loop-left-init

@@ -1,10 +1,6 @@
-use borrow.Author.Rules.{rules}
-use Prim.Native.Nat.{◌+◌, ◌*◌, ◌-◌, ◌≤◌}
-use mathlib.Core.Path.{◌≡◌, refl, sym, ◌∙◌}
-use native.Mathlib.Omega.{arith}
-use borrow.Author.Tests.{not-true, not-false}
-use Rattle.bits.specs.Bytes.{le32}
-use Rattle.list_layout.proofs.Listing.{records_at, records_offset, records_size, records_outside, records_next, records_end}
+use Prim.Native.Nat.{◌+◌, ◌*◌, ◌≤◌}
+use mathlib.Core.Path.{◌≡◌}
+use Rattle.list_layout.proofs.Listing.{records_at}
 use Rattle.list_layout.proofs.records_in_layout.Given as goal
 
 abbrev pub invariant-loop-left : goal.invariant-loop-left

@@ -1,6 +1,5 @@
 -- The two bytes at a place are the first two of what is left there: `first_two`. Assumes nothing.
 use Rattle.list_layout.proofs.Walking.{first_two}
-use borrow.Author.Rules.{rules}
 use Rattle.list_layout.proofs.u16_at.Goals as goal
 
 pub returns-in-At : goal.returns-in-At

@@ -4,7 +4,6 @@ use mathlib.Core.Path.{ap}
 use lib.ListN.{length-append}
 use Rattle.bits.specs.Bytes.{bytes16}
 use Rattle.list_fields.specs.Means.{inputs_end}
-use borrow.Author.Rules.{rules}
 use Rattle.list_primitives.proofs.inputs_size.Goals as goal
 
 pub run_size-requires : goal.run_size-requires

@@ -2,7 +2,6 @@
 use mathlib.Core.Path.{ap, ◌∙◌}
 use lib.ListN.{length}
 use Rattle.tree.specs.Input.{input_bytes, Input}
-use borrow.Author.Rules.{rules}
 use Rattle.list_primitives.proofs.one_size.Goals as goal
 
 pub returns : goal.returns

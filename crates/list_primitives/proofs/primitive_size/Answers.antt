@@ -5,7 +5,6 @@ use lib.ListN.{length}
 use Rattle.tree.specs.List.{inputs_bytes}
 use Rattle.list_primitives.specs.Tables.{input_bytes_at}
 use Rattle.list_primitives.proofs.Parts.{primitive_long}
-use borrow.Author.Rules.{rules}
 use Rattle.list_primitives.proofs.primitive_size.Goals as goal
 
 pub returns : goal.returns

@@ -7,7 +7,6 @@ use Rattle.bits.proofs.Patches.{◌then◌, put_none}
 use Rattle.list_fields.specs.Means.{inputs_end}
 use Rattle.list_primitives.proofs.Merges.{inputs_long}
 use Rattle.list_primitives.proofs.Parts.{inputs_bytes_at, put_like}
-use borrow.Author.Rules.{rules}
 use Rattle.list_primitives.proofs.put_inputs.Goals as goal
 
 pub put_one-requires : goal.put_one-requires

@@ -1,5 +1,4 @@
 -- What the input resolves to, written. Assumes nothing.
-use borrow.Author.Rules.{rules}
 use Rattle.list_primitives.proofs.put_one.Goals as goal
 
 pub put_input-requires : goal.put_input-requires

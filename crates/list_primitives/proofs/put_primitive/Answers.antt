@@ -6,7 +6,6 @@ use Rattle.bits.proofs.Patches.{◌then◌}
 use Rattle.tree.specs.List.{inputs_bytes}
 use Rattle.list_primitives.specs.Tables.{input_bytes_at}
 use Rattle.list_primitives.proofs.Parts.{primitive_parts, primitive_long, put_like}
-use borrow.Author.Rules.{rules}
 use Rattle.list_primitives.proofs.put_primitive.Goals as goal
 
 pub put_rect-a-requires : goal.put_rect-a-requires

@@ -3,7 +3,7 @@ use Rattle.svgtree.specs.Parse.{node_at}
 use borrow.Author.Rules.{rules}
 use native.Mathlib.Omega.{arith}
 use mathlib.Core.Path.{◌≡◌, sym, ap, ◌∙◌}
-use Prim.Native.Nat.{◌+◌, ◌*◌, ◌-◌, ◌≤◌}
+use Prim.Native.Nat.{◌+◌}
 use lib.ListN.{length}
 use Rattle.bits.specs.Texts.{maybe_text_is}
 use Rattle.child.specs.Child.{in_of}

@@ -8,7 +8,6 @@ use Rattle.tree.specs.Kinds.{identity_matrix}
 use Rattle.tree.proofs.Runs.{length_numbers}
 use Rattle.number_list.specs.Lists.{numbers_is}
 use native.Mathlib.Omega.{arith}
-use borrow.Author.Rules.{rules}
 use Rattle.list_values.proofs.color_matrix_kind_size.Goals as goal
 
 pub returns-in-Matrix : goal.returns-in-Matrix

@@ -2,7 +2,6 @@
 use Rattle.tree.proofs.Lengths.{component_transfer_parts}
 use Rattle.tree.specs.Means.{component_transfer_is}
 use native.Mathlib.Omega.{arith}
-use borrow.Author.Rules.{rules}
 use Rattle.list_values.proofs.component_transfer_size.Goals as goal
 
 pub returns : goal.returns

@@ -3,7 +3,6 @@ use mathlib.Core.Path.{ap, ◌∙◌}
 use Rattle.tree.proofs.Lengths.{length-composite_operator}
 use Rattle.tree.specs.Sizes.{composite_operator_size}
 use native.Mathlib.Omega.{arith}
-use borrow.Author.Rules.{rules}
 use Rattle.list_values.proofs.composite_operator_size.Goals as goal
 
 pub returns-in-Over : goal.returns-in-Over

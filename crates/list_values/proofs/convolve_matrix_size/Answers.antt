@@ -4,7 +4,6 @@ use Rattle.tree.proofs.Runs.{length_numbers}
 use Rattle.number_list.specs.Lists.{numbers_is}
 use Rattle.tree.specs.Means.{convolve_matrix_is}
 use native.Mathlib.Omega.{arith}
-use borrow.Author.Rules.{rules}
 use Rattle.list_values.proofs.convolve_matrix_size.Goals as goal
 
 pub returns : goal.returns

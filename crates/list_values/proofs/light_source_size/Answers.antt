@@ -3,7 +3,6 @@ use mathlib.Core.Path.{ap, ◌∙◌}
 use Rattle.tree.proofs.Lengths.{length-light_source}
 use Rattle.tree.specs.Sizes.{light_source_size}
 use native.Mathlib.Omega.{arith}
-use borrow.Author.Rules.{rules}
 use Rattle.list_values.proofs.light_source_size.Goals as goal
 
 pub returns-in-DistantLight : goal.returns-in-DistantLight

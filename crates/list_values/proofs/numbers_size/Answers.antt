@@ -2,7 +2,6 @@
 use Rattle.tree.proofs.Runs.{length_numbers}
 use Rattle.number_list.specs.Lists.{numbers_is}
 use native.Mathlib.Omega.{arith}
-use borrow.Author.Rules.{rules}
 use Rattle.list_values.proofs.numbers_size.Goals as goal
 
 pub returns : goal.returns

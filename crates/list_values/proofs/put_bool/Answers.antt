@@ -1,5 +1,4 @@
 -- One byte, in each of the two cases. Assumes nothing.
-use borrow.Author.Rules.{rules}
 use Rattle.list_values.proofs.put_bool.Goals as goal
 
 pub returns-then-v : goal.returns-then-v

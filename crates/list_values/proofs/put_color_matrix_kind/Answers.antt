@@ -7,7 +7,6 @@ use Rattle.tree.specs.Sizes.{color_matrix_kind_size}
 use Rattle.tree.specs.Means.{color_matrix_kind_is}
 use Rattle.tree.specs.Kinds.{identity_matrix}
 use Rattle.tree.specs.declared.ColorMatrixKind.{ColorMatrixKind}
-use borrow.Author.Rules.{rules}
 use Rattle.list_values.proofs.put_color_matrix_kind.Goals as goal
 
 pub put_u8-a-requires : goal.put_u8-a-requires

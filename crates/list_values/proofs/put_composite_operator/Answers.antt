@@ -4,7 +4,6 @@ use mathlib.Core.Path.{ap}
 use Rattle.bits.proofs.Patches.{◌then◌, ◌counted◌}
 use Rattle.tree.specs.Fields.{composite_operator_bytes}
 use Rattle.tree.specs.Sizes.{composite_operator_size}
-use borrow.Author.Rules.{rules}
 use Rattle.list_values.proofs.put_composite_operator.Goals as goal
 
 pub put_u8-requires : goal.put_u8-requires

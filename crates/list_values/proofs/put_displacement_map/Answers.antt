@@ -2,7 +2,6 @@
 use native.Mathlib.Omega.{arith}
 use Rattle.bits.proofs.Patches.{◌then◌, ◌counted◌}
 use Rattle.tree.specs.Fields.{displacement_map_bytes}
-use borrow.Author.Rules.{rules}
 use Rattle.list_values.proofs.put_displacement_map.Goals as goal
 
 pub returns : goal.returns

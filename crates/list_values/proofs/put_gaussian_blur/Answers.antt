@@ -2,7 +2,6 @@
 use native.Mathlib.Omega.{arith}
 use Rattle.bits.proofs.Patches.{◌then◌, ◌counted◌}
 use Rattle.tree.specs.Fields.{gaussian_blur_bytes}
-use borrow.Author.Rules.{rules}
 use Rattle.list_values.proofs.put_gaussian_blur.Goals as goal
 
 pub returns : goal.returns

@@ -3,7 +3,6 @@ use mathlib.Core.Path.{◌≡◌, ap, ◌∙◌}
 use mir.Syntax.{w32}
 use mir.ValLaws.{to_z-of_z}
 use Rattle.tree.specs.Scalars.{twos_complement, i32_bytes}
-use borrow.Author.Rules.{rules}
 use Rattle.list_values.proofs.put_i32.Goals as goal
 
 pub returns : goal.returns

@@ -4,7 +4,6 @@ use mathlib.Core.Path.{ap}
 use Rattle.bits.proofs.Patches.{◌then◌, ◌counted◌}
 use Rattle.tree.specs.Fields.{light_source_bytes, point_light_bytes}
 use Rattle.tree.specs.Sizes.{light_source_size}
-use borrow.Author.Rules.{rules}
 use Rattle.list_values.proofs.put_light_source.Goals as goal
 
 pub put_u8-a-requires : goal.put_u8-a-requires

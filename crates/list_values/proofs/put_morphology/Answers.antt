@@ -2,7 +2,6 @@
 use native.Mathlib.Omega.{arith}
 use Rattle.bits.proofs.Patches.{◌then◌, ◌counted◌}
 use Rattle.tree.specs.Fields.{morphology_bytes}
-use borrow.Author.Rules.{rules}
 use Rattle.list_values.proofs.put_morphology.Goals as goal
 
 pub returns : goal.returns

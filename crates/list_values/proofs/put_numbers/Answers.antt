@@ -1,7 +1,6 @@
 -- The count and then the numbers: two writers in a row are one. Assumes nothing.
 use Rattle.bits.proofs.Patches.{◌then◌}
 use Rattle.tree.specs.Scalars.{numbers_bytes}
-use borrow.Author.Rules.{rules}
 use Rattle.list_values.proofs.put_numbers.Goals as goal
 
 pub returns : goal.returns

@@ -4,7 +4,6 @@ use mathlib.Core.Path.{ap}
 use Rattle.bits.proofs.Patches.{◌then◌, ◌counted◌}
 use Rattle.tree.specs.Scalars.{option_bytes}
 use Rattle.tree.specs.Sizes.{option_size}
-use borrow.Author.Rules.{rules}
 use Rattle.list_values.proofs.put_option.Goals as goal
 
 pub put_u8-requires : goal.put_u8-requires

@@ -1,13 +1,9 @@
-use borrow.Author.Rules.{rules}
-use native.Mathlib.Omega.{arith}
-use Prim.Native.Nat.{◌+◌, ◌-◌, ◌*◌, ◌<◌, ◌≤◌}
+use Prim.Native.Nat.{◌+◌, ◌-◌, ◌*◌, ◌≤◌}
 use mathlib.Core.Path.{◌≡◌}
-use lib.ListN.{length, take, get_or}
+use lib.ListN.{length, take}
 use Rattle.bits.specs.Patch.{Put}
-use Rattle.bits.proofs.Patches.{◌then◌, ◌counted◌, put_none}
 use Rattle.tree.specs.List.{pairs_bytes}
 use Rattle.tree.specs.Sizes.{total}
-use Rattle.tree.proofs.Pairs.{pairs_none, total_none, taken_more, total_more, total_room, pairs_snoc}
 use Rattle.list_values.proofs.put_pairs.Given as goal
 
 abbrev pub invariant-loop-j : goal.invariant-loop-j

@@ -2,16 +2,14 @@
 -- Assumes nothing.
 use borrow.Author.Rules.{rules}
 use native.Mathlib.Omega.{arith}
-use Prim.Native.Nat.{◌-◌, ◌*◌, ◌<◌, ◌≤◌}
-use mathlib.Core.Path.{◌≡◌, refl, ◌∙◌}
-use lib.ListN.{length, take, drop}
+use Prim.Native.Nat.{◌<◌, ◌≤◌}
+use mathlib.Core.Path.{refl, ◌∙◌}
+use lib.ListN.{length}
 use lib.Seq.{take_all}
-use Rattle.bits.specs.Patch.{Put}
 use Rattle.bits.proofs.Patches.{◌then◌, ◌counted◌, put_none}
 use Rattle.num.specs.Constants.{plus_zero}
-use Rattle.number_list.specs.Lists.{rest_is, numbers_is}
+use Rattle.number_list.specs.Lists.{numbers_is}
 use Rattle.number_list.proofs.Lists.{walked_first, walked_rest}
-use Rattle.tree.specs.Scalars.{run_bytes}
 use Rattle.tree.proofs.Runs.{run_more, run_none}
 use Rattle.list_values.proofs.put_run.Goals as goal
 

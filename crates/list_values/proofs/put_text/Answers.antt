@@ -2,7 +2,6 @@
 use Rattle.bits.proofs.Runs.{length-bytes_from}
 use Rattle.bits.proofs.Patches.{◌then◌}
 use Rattle.tree.specs.Input.{text_bytes}
-use borrow.Author.Rules.{rules}
 use Rattle.list_values.proofs.put_text.Goals as goal
 
 pub returns : goal.returns

@@ -6,7 +6,6 @@ use Rattle.tree.specs.Fields.{transfer_function_bytes}
 use Rattle.tree.specs.Sizes.{transfer_function_size}
 use Rattle.tree.specs.Means.{transfer_function_is}
 use Rattle.tree.specs.declared.TransferFunction.{TransferFunction}
-use borrow.Author.Rules.{rules}
 use Rattle.list_values.proofs.put_transfer_function.Goals as goal
 
 pub put_u8-requires : goal.put_u8-requires

@@ -1,14 +1,8 @@
-use lib.Ieee.{nan}
-use borrow.Author.Rules.{rules}
-use native.Mathlib.Omega.{arith}
-use Prim.Native.Nat.{◌-◌, ◌*◌, ◌<◌, ◌≤◌}
+use Prim.Native.Nat.{◌-◌, ◌*◌, ◌≤◌}
 use mathlib.Core.Path.{◌≡◌}
 use lib.ListN.{length, take}
-use lib.Seq.{take_all}
 use Rattle.bits.specs.Patch.{Put}
-use Rattle.bits.proofs.Patches.{◌then◌, ◌counted◌, put_none}
 use Rattle.tree.specs.Scalars.{run_bytes}
-use Rattle.tree.proofs.Runs.{run_more, run_none}
 use Rattle.list_values.proofs.put_value_run.Given as goal
 
 abbrev pub invariant-loop-j : goal.invariant-loop-j

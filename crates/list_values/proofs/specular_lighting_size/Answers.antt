@@ -1,7 +1,6 @@
 -- All but the light takes 15 bytes. Assumes nothing.
 use Rattle.tree.proofs.Lengths.{length_specular_lighting, length-light_source}
 use native.Mathlib.Omega.{arith}
-use borrow.Author.Rules.{rules}
 use Rattle.list_values.proofs.specular_lighting_size.Goals as goal
 
 pub returns : goal.returns

@@ -7,7 +7,6 @@ use Rattle.tree.specs.Means.{transfer_function_is}
 use Rattle.tree.proofs.Runs.{length_numbers}
 use Rattle.number_list.specs.Lists.{numbers_is}
 use native.Mathlib.Omega.{arith}
-use borrow.Author.Rules.{rules}
 use Rattle.list_values.proofs.transfer_function_size.Goals as goal
 
 pub returns-in-Identity : goal.returns-in-Identity

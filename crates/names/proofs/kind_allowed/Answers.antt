@@ -3,7 +3,6 @@
 use mathlib.Core.Path.{sym}
 use mathlib.Core.Bool.{or-false, and-true, and-false}
 use native.Mathlib.Omega.{arith}
-use borrow.Author.Rules.{rules}
 use borrow.Author.Tests.{eq-eqb, ne_eqb}
 use Rattle.names.specs.Ids.{aid_lighting_color}
 use Rattle.names.specs.Kinds.{kind_allowed}

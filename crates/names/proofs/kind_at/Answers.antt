@@ -1,5 +1,4 @@
 -- `names::kind_at` meets its contract: each depth has its function, and the test of the depth is that of the definition. Assumes nothing.
-use borrow.Author.Rules.{rules}
 use borrow.Author.Tests.{eq-eqb, ne_eqb}
 use Rattle.names.specs.Kinds.{kind_at}
 use Rattle.names.proofs.kind_at.Goals as goal

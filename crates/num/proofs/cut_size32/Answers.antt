@@ -6,7 +6,6 @@ use native.Mathlib.Omega.{arith}
 use lib.Dec.{lit≤}
 use Rattle.num.proofs.Roundings.{cut_rounding}
 use Rattle.num.proofs.Sizes.{size_tiny, size_low, size_whole}
-use borrow.Author.Rules.{rules}
 use Rattle.num.proofs.cut_size32.Goals as goal
 
 below_one : (g u : ℕ) → g < 16777216 → 16777216 ≤ u → g / u ≡ 0

@@ -2,7 +2,6 @@
 use mathlib.Core.Path.{ap, ◌∙◌}
 use Prim.Native.Nat.{ℕ, ◌-◌, ◌/◌, ◌^◌}
 use Rattle.num.proofs.Sizes.{wide_tiny, wide_low, wide_top}
-use borrow.Author.Rules.{rules}
 use Rattle.num.proofs.cut_size64.Goals as goal
 
 pub returns-then-x-lt1023 : goal.returns-then-x-lt1023

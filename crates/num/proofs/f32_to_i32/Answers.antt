@@ -5,12 +5,10 @@ use native.Mathlib.Omega.{arith}
 use Prim.Native.Nat.{◌%◌}
 use mathlib.Core.Path.{◌≡◌, ap, subst, sym, ◌∙◌}
 use lib.Dec.{T}
-use lib.Ieee.{binary32, of_bits, to_signed}
+use lib.Ieee.{binary32, to_signed}
 use Rattle.num.proofs.Finite.{bits_back}
 use Rattle.num.proofs.Ends.{signed_finite, signed_inf, signed_nan}
-use borrow.Author.Rules.{rules}
 use Rattle.num.proofs.f32_to_i32.Goals as goal
-
 
 pub returns-then-size-lt2139095040 : goal.returns-then-size-lt2139095040
 returns-then-size-lt2139095040 c =

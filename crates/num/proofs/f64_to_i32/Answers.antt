@@ -6,7 +6,6 @@ use Prim.Native.Nat.{◌%◌}
 use mathlib.Core.Path.{◌≡◌, ◌∙◌}
 use lib.Ieee.{binary64}
 use Rattle.num.proofs.Ends.{signed_finite, signed_inf, signed_nan}
-use borrow.Author.Rules.{rules}
 use Rattle.num.proofs.f64_to_i32.Goals as goal
 
 pub returns-then-size-lt9218868437227405312 : goal.returns-then-size-lt9218868437227405312

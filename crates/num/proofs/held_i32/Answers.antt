@@ -3,7 +3,6 @@ use mathlib.Core.Path.{ap, sym, ◌∙◌}
 use mathlib.Core.Bool.{Bool}
 use Rattle.num.specs.Means.{held_signed}
 use Rattle.num.proofs.Ends.{plus_small, plus_large, minus_fits, minus_small, minus_large}
-use borrow.Author.Rules.{rules}
 use Rattle.num.proofs.held_i32.Goals as goal
 
 pub overflow_sub-result : goal.overflow_sub-result

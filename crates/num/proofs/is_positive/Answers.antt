@@ -1,6 +1,5 @@
 -- `num::is_positive` meets its contract: the two tests are those of `positive`. Assumes nothing.
 use mathlib.Core.Path.{sym, ◌∙◌}
-use borrow.Author.Rules.{rules}
 use Rattle.num.proofs.is_positive.Goals as goal
 
 pub returns-then-is_finite : goal.returns-then-is_finite

@@ -1,7 +1,6 @@
 -- `num::left` meets its contract: n has 24 digits and d is below 10, so the shift drops nothing. Assumes nothing.
 use native.Mathlib.Omega.{arith}
 use lib.Pow.{shl_exact}
-use borrow.Author.Rules.{rules}
 use Rattle.num.proofs.left.Goals as goal
 
 pub returns : goal.returns

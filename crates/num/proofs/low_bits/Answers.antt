@@ -2,7 +2,6 @@
 use native.Mathlib.Omega.{arith}
 use lib.Pow.{pow_pos}
 use lib.Bits.{and_mask}
-use borrow.Author.Rules.{rules}
 use Rattle.num.proofs.low_bits.Goals as goal
 
 pub overflow_sub-result : goal.overflow_sub-result

@@ -5,7 +5,6 @@ use mathlib.Core.Path.{◌≡◌, sym, ap, subst, ◌∙◌}
 use lib.Dec.{lit≤}
 use lib.Ieee.Nearest.{closest}
 use Rattle.num.proofs.Narrowing.{Done, tiny, low, low_le, normal, normal_le, large}
-use borrow.Author.Rules.{rules}
 use Rattle.num.proofs.magnitude.Goals as goal
 
 pub returns-then-x-lt873 : goal.returns-then-x-lt873

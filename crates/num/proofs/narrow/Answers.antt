@@ -3,7 +3,6 @@ use native.Mathlib.Omega.{arith}
 use Prim.Native.Nat.{ℕ, ◌+◌, ◌*◌, ◌/◌, ◌%◌}
 use mathlib.Core.Path.{◌≡◌, subst, ◌∙◌}
 use Rattle.num.proofs.Narrowing.{Bits, narrowed_nan, whole}
-use borrow.Author.Rules.{rules}
 use Rattle.num.proofs.narrow.Goals as goal
 
 pub returns-then-bits-gt9218868437227405312 : goal.returns-then-bits-gt9218868437227405312

@@ -6,7 +6,6 @@ use native.Mathlib.Numerals.{add-one}
 use mathlib.Core.Path.{◌≡◌, sym, ◌∙◌}
 use lib.Pow.{pow_pos, pow_mono, shr_le}
 use Rattle.num.proofs.Patterns.{closest_lt, closest_gt, closest_eq}
-use borrow.Author.Rules.{rules}
 use Rattle.num.proofs.nearest_shift.Goals as goal
 
 rest_lt : (n d : ℕ) → d < 54 → n % 2 ^ d < 9007199254740992

@@ -8,7 +8,6 @@ use lib.Pow.{pow_pos}
 use Rattle.num.specs.Whole.{half_even}
 use Rattle.num.proofs.Roundings.{even_rounding, even_closest, closest_none, closest_le}
 use Rattle.num.proofs.Sizes.{size_tiny, size_low, size_whole}
-use borrow.Author.Rules.{rules}
 use Rattle.num.proofs.nearest_size.Goals as goal
 
 below_half : (g u : ℕ) → g < 16777216 → 33554432 ≤ u → half_even g u ≡ 0

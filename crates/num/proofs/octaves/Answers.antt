@@ -1,14 +1,11 @@
 -- `num::octaves` meets its contract: the bits stand for x; a set sign gives 0, a finite number its size held at 2 ^ 32 - 1, an infinity the upper end, a NaN 0. Assumes nothing.
 use native.Mathlib.Omega.{arith}
-use mathlib.Core.Path.{◌≡◌, ap, subst, sym, ◌∙◌}
+use mathlib.Core.Path.{ap, subst, sym, ◌∙◌}
 use lib.Dec.{T}
-use lib.Ieee.{binary32, of_bits}
 use Rattle.num.specs.Whole.{octaves_of}
 use Rattle.num.proofs.Finite.{bits_back}
 use Rattle.num.proofs.Ends.{octaves_minus, octaves_plus, octaves_inf, octaves_nan}
-use borrow.Author.Rules.{rules}
 use Rattle.num.proofs.octaves.Goals as goal
-
 
 pub returns-then-bits-ge2147483648 : goal.returns-then-bits-ge2147483648
 returns-then-bits-ge2147483648 c = octaves_minus c.bits_of-bits.result (omega (arith, c.if-bits-ge2147483648.true)) ∙ ap octaves_of (bits_back c.args.x c.bits_of-bits.result (subst T (sym c.well_formed.0.1) tt) c.bits_of-bits.ensures)

@@ -4,7 +4,6 @@ use Prim.Native.Nat.{ℕ, ◌+◌, ◌-◌, ◌*◌, ◌/◌, ◌%◌, ◌^◌, 
 use native.Mathlib.Omega.{arith}
 use lib.Pow.{pow_mono}
 use Rattle.num.proofs.Wholes.{round_tiny, round_one, round_mid, round_large}
-use borrow.Author.Rules.{rules}
 use Rattle.num.proofs.round_bits.Goals as goal
 
 pub returns-then-x-lt126 : goal.returns-then-x-lt126

@@ -1,12 +1,9 @@
 -- `num::round_f32` meets its contract: the bits that `round_bits` gives stand for the rounded number; an infinity and a NaN are kept. Assumes nothing.
-use mathlib.Core.Path.{◌≡◌, subst, sym}
+use mathlib.Core.Path.{subst, sym}
 use lib.Dec.{T}
-use lib.Ieee.{binary32, of_bits}
 use Rattle.num.proofs.Finite.{bits_back}
 use Rattle.num.proofs.Wholes.{rounded_kept, rounded_back, rounded_no_nan}
-use borrow.Author.Rules.{rules}
 use Rattle.num.proofs.round_f32.Goals as goal
-
 
 pub float_from_bits-result : goal.float_from_bits-result
 float_from_bits-result c = rounded_no_nan c.args.x c.bits_of-bits.result c.round_bits.result (bits_back c.args.x c.bits_of-bits.result (subst T (sym c.well_formed.0.1) tt) c.bits_of-bits.ensures) c.round_bits.ensures c.if-bits-lt2139095040.true

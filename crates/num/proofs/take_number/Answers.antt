@@ -3,7 +3,6 @@ use mathlib.Core.Path.{ap, ◌∙◌}
 use lib.Ieee.{binary64, of_bits}
 use Rattle.num.specs.Means.{if_finite}
 use Rattle.num.proofs.Finite.{narrowed_back}
-use borrow.Author.Rules.{rules}
 use Rattle.num.proofs.take_number.Goals as goal
 
 pub returns : goal.returns

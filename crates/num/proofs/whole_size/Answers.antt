@@ -5,7 +5,6 @@ use native.Mathlib.Nat.{le_trans, le_of_eq, le_of_lt, mul-le-mul_right}
 use native.Mathlib.Omega.{arith}
 use lib.Pow.{pow-add, pow_mono, shl_lt}
 use Rattle.num.proofs.Sizes.{held, at_top, lead_lt, lead_ge}
-use borrow.Author.Rules.{rules}
 use Rattle.num.proofs.whole_size.Goals as goal
 
 below : (x t : ℕ) → t < 8388608 → x < 160 → (8388608 + t) * 2 ^ (x - 150) ≤ 8589934592

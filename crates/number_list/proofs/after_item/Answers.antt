@@ -1,7 +1,6 @@
 -- Behind the next word stand the numbers of the other words; with no word left, none. Assumes nothing.
 use Rattle.number_list.proofs.Lists.{items_rest, items_end}
 use native.Mathlib.Omega.{arith}
-use borrow.Author.Rules.{rules}
 use Rattle.number_list.proofs.after_item.Goals as goal
 
 pub overflow_add-result : goal.overflow_add-result

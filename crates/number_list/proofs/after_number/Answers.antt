@@ -2,7 +2,6 @@
 use Rattle.number_list.proofs.Lists.{typed_rest, packed_next}
 use lib.ListN.{drop}
 use mathlib.Core.Path.{sym, ap, ◌∙◌}
-use borrow.Author.Rules.{rules}
 use Rattle.number_list.proofs.after_number.Goals as goal
 
 pub returns-then-ns : goal.returns-then-ns

@@ -1,10 +1,6 @@
 -- Invariant: what comes of the whole text is what comes of the rest after n items. Each step goes past one part of it. Assumes nothing.
 use Rattle.number_list.proofs.Steps.{check_start}
-use Rattle.number_list.specs.Means.{outcome_check, check_from}
-use Rattle.number_list.specs.Outcome.{text_outcome}
-use Rattle.bits.specs.Bytes.{bytes_from}
-use mathlib.Core.Path.{◌≡◌, sym, ◌∙◌}
-use Prim.Native.Nat.{◌≤◌, ◌-◌}
+use mathlib.Core.Path.{sym, ◌∙◌}
 use native.Mathlib.Omega.{arith}
 use borrow.Author.Rules.{rules}
 use Rattle.number_list.proofs.check_text.Goals as goal

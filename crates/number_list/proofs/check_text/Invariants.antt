@@ -1,11 +1,8 @@
-use Rattle.number_list.proofs.Steps.{check_start}
 use Rattle.number_list.specs.Means.{outcome_check, check_from}
 use Rattle.number_list.specs.Outcome.{text_outcome}
 use Rattle.bits.specs.Bytes.{bytes_from}
-use mathlib.Core.Path.{◌≡◌, sym, ◌∙◌}
+use mathlib.Core.Path.{◌≡◌}
 use Prim.Native.Nat.{◌≤◌, ◌-◌}
-use native.Mathlib.Omega.{arith}
-use borrow.Author.Rules.{rules}
 use Rattle.number_list.proofs.check_text.Given as goal
 
 abbrev pub invariant-loop-check : goal.invariant-loop-check

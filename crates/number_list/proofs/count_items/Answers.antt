@@ -1,12 +1,9 @@
 -- Invariant: the numbers are the n that were passed and those of the rest. A word has a byte at least, so n is at most the place, and fits. Assumes nothing.
-use Rattle.number_list.specs.Means.{text_from}
-use Rattle.number_list.specs.Outcome.{word_value, typed_numbers}
+use Rattle.number_list.specs.Outcome.{word_value}
 use lib.ListN.{length}
 use mathlib.Core.List.{map}
-use mathlib.Core.Path.{◌≡◌, ap}
-use Prim.Native.Nat.{◌≤◌, ◌-◌, ◌+◌}
+use mathlib.Core.Path.{ap}
 use native.Mathlib.Omega.{arith}
-use borrow.Author.Rules.{rules}
 use Rattle.number_list.proofs.count_items.Goals as goal
 
 pub loop-f-init : goal.loop-f-init

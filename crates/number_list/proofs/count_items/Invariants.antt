@@ -1,11 +1,8 @@
 use Rattle.number_list.specs.Means.{text_from}
-use Rattle.number_list.specs.Outcome.{word_value, typed_numbers}
+use Rattle.number_list.specs.Outcome.{typed_numbers}
 use lib.ListN.{length}
-use mathlib.Core.List.{map}
-use mathlib.Core.Path.{◌≡◌, ap}
+use mathlib.Core.Path.{◌≡◌}
 use Prim.Native.Nat.{◌≤◌, ◌-◌, ◌+◌}
-use native.Mathlib.Omega.{arith}
-use borrow.Author.Rules.{rules}
 use Rattle.number_list.proofs.count_items.Given as goal
 
 abbrev pub invariant-loop-f : goal.invariant-loop-f

@@ -9,7 +9,6 @@ use Prim.Native.Nat.{ℕ, ◌-◌}
 use native.Mathlib.Omega.{arith}
 use lib.Ieee.{Float}
 use mathlib.Core.List.{List}
-use borrow.Author.Rules.{rules}
 use Rattle.number_list.proofs.item_at.Goals as goal
 
 pub loop-left-init : goal.loop-left-init

@@ -1,14 +1,8 @@
 use Rattle.number_list.specs.Means.{text_from}
 use Rattle.number_list.specs.Outcome.{typed_numbers}
-use Rattle.number_list.proofs.Lists.{at_next}
 use Rattle.num.specs.Constants.{plus_zero}
 use lib.ListN.{get_or}
-use mathlib.Core.Path.{◌≡◌, refl, sym, ap, ◌∙◌}
-use Prim.Native.Nat.{ℕ, ◌-◌}
-use native.Mathlib.Omega.{arith}
-use lib.Ieee.{Float}
-use mathlib.Core.List.{List}
-use borrow.Author.Rules.{rules}
+use mathlib.Core.Path.{◌≡◌}
 use Rattle.number_list.proofs.item_at.Given as goal
 
 abbrev pub invariant-loop-left : goal.invariant-loop-left

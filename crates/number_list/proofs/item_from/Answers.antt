@@ -1,7 +1,6 @@
 -- The first number is that of the next word. Assumes nothing.
 use Rattle.number_list.proofs.Lists.{item_first, item_none}
 use mathlib.Core.Path.{◌∙◌}
-use borrow.Author.Rules.{rules}
 use Rattle.number_list.proofs.item_from.Goals as goal
 
 pub returns-in-Is : goal.returns-in-Is

@@ -1,9 +1,6 @@
 -- Invariant: the words of the text are those of the rest, since a comma is no word. Assumes nothing.
-use Rattle.number_list.specs.Means.{place_text, text_from}
 use Rattle.number_list.specs.Outcome.{words_in}
-use Rattle.number_list.specs.Text.{parts}
-use mathlib.Core.Path.{◌≡◌, refl, sym, ◌∙◌, ap}
-use Prim.Native.Nat.{◌≤◌, ◌-◌}
+use mathlib.Core.Path.{refl, sym, ◌∙◌, ap}
 use native.Mathlib.Omega.{arith}
 use borrow.Author.Rules.{rules}
 use Rattle.number_list.proofs.next_word.Goals as goal

@@ -1,10 +1,8 @@
 use Rattle.number_list.specs.Means.{place_text, text_from}
 use Rattle.number_list.specs.Outcome.{words_in}
 use Rattle.number_list.specs.Text.{parts}
-use mathlib.Core.Path.{◌≡◌, refl, sym, ◌∙◌, ap}
+use mathlib.Core.Path.{◌≡◌}
 use Prim.Native.Nat.{◌≤◌, ◌-◌}
-use native.Mathlib.Omega.{arith}
-use borrow.Author.Rules.{rules}
 use Rattle.number_list.proofs.next_word.Given as goal
 
 abbrev pub invariant-loop-next : goal.invariant-loop-next

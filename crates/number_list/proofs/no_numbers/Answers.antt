@@ -1,5 +1,4 @@
 -- A list of no numbers of four bytes each is empty. Assumes nothing.
-use borrow.Author.Rules.{rules}
 use Rattle.number_list.specs.Lists.{numbers_from}
 use Rattle.number_list.proofs.no_numbers.Goals as goal
 

@@ -5,7 +5,6 @@ use lib.Ieee.{Float}
 use lib.ListN.{get_or}
 use mathlib.Core.List.{List}
 use mathlib.Core.Path.{sym, ap, ◌∙◌}
-use borrow.Author.Rules.{rules}
 use Rattle.number_list.proofs.number_at.Goals as goal
 
 pub returns-then-ns : goal.returns-then-ns

@@ -1,9 +1,7 @@
 -- Invariant: the bytes that were passed are white space, so the parts of the text are those of the rest. Assumes nothing.
-use Rattle.number_list.proofs.Splits.{Skipping, skip_start, skip_more, skip_stop, skip_end}
+use Rattle.number_list.proofs.Splits.{skip_start, skip_more, skip_stop, skip_end}
 use Rattle.number_list.specs.Text.{is_space}
-use borrow.Author.Tests.{not-true, not-false}
 use mathlib.Core.Path.{sym, ◌∙◌, ap}
-use Prim.Native.Nat.{◌-◌}
 use native.Mathlib.Omega.{arith}
 use borrow.Author.Rules.{rules}
 use Rattle.number_list.proofs.spaces.Goals as goal

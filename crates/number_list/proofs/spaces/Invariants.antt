@@ -1,10 +1,5 @@
-use Rattle.number_list.proofs.Splits.{Skipping, skip_start, skip_more, skip_stop, skip_end}
-use Rattle.number_list.specs.Text.{is_space}
-use borrow.Author.Tests.{not-true, not-false}
-use mathlib.Core.Path.{sym, ◌∙◌, ap}
+use Rattle.number_list.proofs.Splits.{Skipping}
 use Prim.Native.Nat.{◌-◌}
-use native.Mathlib.Omega.{arith}
-use borrow.Author.Rules.{rules}
 use Rattle.number_list.proofs.spaces.Given as goal
 
 abbrev pub invariant-loop-n : goal.invariant-loop-n

@@ -1,9 +1,7 @@
 -- Invariant: the bytes that were passed are the beginning of the word that stands first (`Spelling`). Assumes nothing.
-use Rattle.number_list.proofs.Splits.{Spelling, spell_start, spell_more, spell_stop, spell_end}
+use Rattle.number_list.proofs.Splits.{spell_start, spell_more, spell_stop, spell_end}
 use Rattle.number_list.specs.Text.{in_word}
-use borrow.Author.Tests.{not-true, not-false}
 use mathlib.Core.Path.{sym, ◌∙◌, ap}
-use Prim.Native.Nat.{◌-◌}
 use native.Mathlib.Omega.{arith}
 use borrow.Author.Rules.{rules}
 use Rattle.number_list.proofs.word_len.Goals as goal

@@ -1,10 +1,5 @@
-use Rattle.number_list.proofs.Splits.{Spelling, spell_start, spell_more, spell_stop, spell_end}
-use Rattle.number_list.specs.Text.{in_word}
-use borrow.Author.Tests.{not-true, not-false}
-use mathlib.Core.Path.{sym, ◌∙◌, ap}
+use Rattle.number_list.proofs.Splits.{Spelling}
 use Prim.Native.Nat.{◌-◌}
-use native.Mathlib.Omega.{arith}
-use borrow.Author.Rules.{rules}
 use Rattle.number_list.proofs.word_len.Given as goal
 
 abbrev pub invariant-loop-n : goal.invariant-loop-n

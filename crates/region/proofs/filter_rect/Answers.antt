@@ -1,6 +1,5 @@
 -- `region::filter_rect` meets its contract: its four numbers are those of the header, by the callees. Assumes nothing.
 use Rattle.region.specs.Region.{filter_rect_in}
-use borrow.Author.Rules.{rules}
 use Rattle.region.proofs.filter_rect.Goals as goal
 
 pub returns : goal.returns

@@ -1,6 +1,5 @@
 -- `region::filter_region` meets its contract: units, rectangle and bounding box are the header's, by the callees. Assumes nothing.
 use Rattle.region.specs.Region.{filter_rect_in, filter_region_of}
-use borrow.Author.Rules.{rules}
 use Rattle.region.proofs.filter_region.Goals as goal
 
 pub returns : goal.returns

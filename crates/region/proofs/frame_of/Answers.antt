@@ -1,5 +1,4 @@
 -- `region::frame_of` meets its contract: each field is the header's, by the callees. Assumes nothing.
-use borrow.Author.Rules.{rules}
 use Rattle.region.proofs.frame_of.Goals as goal
 
 pub returns : goal.returns

@@ -1,5 +1,4 @@
 -- `region::region_in` meets its contract: each return is a clause of the definition. Assumes nothing.
-use borrow.Author.Rules.{rules}
 use Rattle.region.proofs.region_in.Goals as goal
 
 pub returns-in_default : goal.returns-in_default

@@ -1,5 +1,4 @@
 -- `region::resolve_height` meets its contract: length, font size and default are the header's, by the callees. Assumes nothing.
-use borrow.Author.Rules.{rules}
 use Rattle.region.proofs.resolve_height.Goals as goal
 
 pub returns : goal.returns

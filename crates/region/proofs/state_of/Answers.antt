@@ -1,5 +1,4 @@
 -- `region::state_of` meets its contract: its three numbers are the header's, by the callees. Assumes nothing.
-use borrow.Author.Rules.{rules}
 use Rattle.region.proofs.state_of.Goals as goal
 
 pub returns : goal.returns

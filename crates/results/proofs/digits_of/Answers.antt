@@ -1,10 +1,8 @@
 -- The loop's invariant: the number's digits are those of what is left, and then what is written. The number left falls. Assumes nothing.
-use borrow.Author.Rules.{rules}
-use mathlib.Core.Path.{◌≡◌, refl, sym}
-use mathlib.Core.List.{◌++◌, append-nil}
-use Prim.Native.Nat.{◌≤◌, ◌<◌, ◌^◌}
+use mathlib.Core.Path.{refl, sym}
+use mathlib.Core.List.{append-nil}
 use native.Mathlib.Omega.{arith}
-use lib.ListN.{length, drop, length-set}
+use lib.ListN.{length-set}
 use Rattle.naming.specs.Names.{digits}
 use Rattle.results.proofs.Spelling.{more_room, digit_more, digit_last}
 use Rattle.results.proofs.digits_of.Goals as goal

@@ -1,11 +1,8 @@
-use borrow.Author.Rules.{rules}
-use mathlib.Core.Path.{◌≡◌, refl, sym}
-use mathlib.Core.List.{◌++◌, append-nil}
+use mathlib.Core.Path.{◌≡◌}
+use mathlib.Core.List.{◌++◌}
 use Prim.Native.Nat.{◌≤◌, ◌<◌, ◌^◌}
-use native.Mathlib.Omega.{arith}
-use lib.ListN.{length, drop, length-set}
+use lib.ListN.{length, drop}
 use Rattle.naming.specs.Names.{digits}
-use Rattle.results.proofs.Spelling.{more_room, digit_more, digit_last}
 use Rattle.results.proofs.digits_of.Given as goal
 
 abbrev pub invariant-loop-n : goal.invariant-loop-n

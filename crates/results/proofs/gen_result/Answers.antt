@@ -4,7 +4,6 @@ use Prim.Native.Nat.{◌-◌}
 use Rattle.bits.specs.Texts.{text_is}
 use Rattle.naming.specs.Names.{Own, Made}
 use Rattle.results.proofs.Tables.{explicit_stored, made_stored}
-use borrow.Author.Rules.{rules}
 use Rattle.results.proofs.gen_result.Goals as goal
 
 pub returns-in-Is : goal.returns-in-Is

@@ -1,16 +1,13 @@
 -- The loop goes from the first entry on. Its invariant: the text is a name among all of them exactly if it is among those from j on. Assumes nothing.
-use borrow.Author.Rules.{rules}
 use mathlib.Core.Path.{◌≡◌, sym, refl, ◌∙◌}
 use mathlib.Core.Bool.{true, false}
-use Prim.Native.Nat.{◌-◌, ◌≤◌}
 use native.Mathlib.Omega.{arith}
 use lib.ListN.{get_or}
-use mathlib.Core.List.{map}
 use Rattle.bits.specs.Bytes.{same}
 use Rattle.bits.specs.Texts.{text_is}
-use Rattle.naming.specs.Names.{member, name_of}
-use Rattle.results.specs.Means.{entry_is, names_is}
-use Rattle.results.proofs.Tables.{from, has_step, has_end}
+use Rattle.naming.specs.Names.{name_of}
+use Rattle.results.specs.Means.{entry_is}
+use Rattle.results.proofs.Tables.{has_step, has_end}
 use Rattle.results.proofs.has_name.Goals as goal
 
 pub loop-j-init : goal.loop-j-init

@@ -1,15 +1,10 @@
-use borrow.Author.Rules.{rules}
-use mathlib.Core.Path.{◌≡◌, sym, refl, ◌∙◌}
-use mathlib.Core.Bool.{true, false}
+use mathlib.Core.Path.{◌≡◌}
 use Prim.Native.Nat.{◌-◌, ◌≤◌}
-use native.Mathlib.Omega.{arith}
-use lib.ListN.{get_or}
 use mathlib.Core.List.{map}
-use Rattle.bits.specs.Bytes.{same}
 use Rattle.bits.specs.Texts.{text_is}
 use Rattle.naming.specs.Names.{member, name_of}
 use Rattle.results.specs.Means.{entry_is, names_is}
-use Rattle.results.proofs.Tables.{from, has_step, has_end}
+use Rattle.results.proofs.Tables.{from}
 use Rattle.results.proofs.has_name.Given as goal
 
 abbrev pub invariant-loop-j : goal.invariant-loop-j

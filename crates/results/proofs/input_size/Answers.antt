@@ -1,7 +1,6 @@
 -- A source is its place alone; a reference is one byte more than its name. Assumes nothing.
 use native.Mathlib.Omega.{arith}
 use Rattle.tree.specs.Input.{input_bytes}
-use borrow.Author.Rules.{rules}
 use Rattle.results.proofs.input_size.Goals as goal
 
 pub returns-in-SourceGraphic : goal.returns-in-SourceGraphic

@@ -4,7 +4,6 @@ use Prim.Native.Nat.{◌/◌}
 use native.Mathlib.Omega.{arith}
 use Rattle.bits.specs.Texts.{text_is}
 use Rattle.results.proofs.Entries.{mark_length, own_hit, key_hit, name_skip}
-use borrow.Author.Rules.{rules}
 use Rattle.results.proofs.is_named.Goals as goal
 
 pub returns-then-e-key : goal.returns-then-e-key

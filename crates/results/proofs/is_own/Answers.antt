@@ -7,7 +7,6 @@ use Rattle.naming.specs.Names.{w_result}
 use Rattle.naming.proofs.Words.{same_comm}
 use Rattle.results.specs.Means.{entry_text}
 use Rattle.results.proofs.Entries.{own_hit, own_skip}
-use borrow.Author.Rules.{rules}
 use Rattle.results.proofs.is_own.Goals as goal
 
 pub text_of_length-requires : goal.text_of_length-requires

@@ -5,7 +5,6 @@ use native.Mathlib.Omega.{arith}
 use Rattle.bits.specs.Bytes.{bytes_from, same}
 use Rattle.naming.specs.Names.{w_result}
 use Rattle.results.proofs.Spelling.{result_short, result_split}
-use borrow.Author.Rules.{rules}
 use Rattle.results.proofs.is_result.Goals as goal
 
 pub returns-then-t-lt6 : goal.returns-then-t-lt6

@@ -2,7 +2,6 @@
 use mathlib.Core.Path.{sym, ◌∙◌}
 use native.Mathlib.Omega.{arith}
 use Rattle.results.proofs.Spelling.{spelt}
-use borrow.Author.Rules.{rules}
 use Rattle.results.proofs.is_taken.Goals as goal
 
 pub returns-then-f-k : goal.returns-then-f-k

@@ -6,7 +6,6 @@ use Rattle.bits.specs.Texts.{text_is}
 use Rattle.naming.specs.Names.{member}
 use Rattle.naming.specs.Inputs.{w_background_image, w_background_alpha, w_fill_paint, w_stroke_paint}
 use Rattle.naming.proofs.Words.{or_none}
-use borrow.Author.Rules.{rules}
 use Rattle.results.proofs.is_unsupported.Goals as goal
 
 pub returns-then-text_is : goal.returns-then-text_is

@@ -1,7 +1,6 @@
 -- `made_entry` at the number. Assumes nothing.
 use native.Mathlib.Omega.{arith}
 use Rattle.results.proofs.Entries.{made_entry}
-use borrow.Author.Rules.{rules}
 use Rattle.results.proofs.made_entry.Goals as goal
 
 pub returns : goal.returns

@@ -3,12 +3,10 @@ use mathlib.Core.Path.{◌≡◌, sym, ◌∙◌}
 use mathlib.Core.Bool.{true, false}
 use Prim.Native.Nat.{◌+◌, ◌-◌}
 use native.Mathlib.Omega.{arith}
-use borrow.Author.Tests.{not-true, not-false}
 use Rattle.bits.specs.Bytes.{bytes_from, same}
 use Rattle.naming.specs.Names.{w_result}
 use Rattle.results.specs.Means.{NumberIn}
 use Rattle.results.proofs.Numbers.{key_short, key_long, key_unlike, key_number}
-use borrow.Author.Rules.{rules}
 use Rattle.results.proofs.made_key.Goals as goal
 
 pub returns-then-t-lt7 : goal.returns-then-t-lt7

@@ -3,7 +3,6 @@ use native.Mathlib.Omega.{arith}
 use Rattle.naming.specs.Names.{made_name}
 use Rattle.results.proofs.Spelling.{made_long}
 use Rattle.results.proofs.Sizes.{length_text}
-use borrow.Author.Rules.{rules}
 use Rattle.results.proofs.made_size.Goals as goal
 
 pub returns : goal.returns

@@ -3,7 +3,6 @@ use native.Mathlib.Omega.{arith}
 use mathlib.Core.Path.{sym, ap, ◌∙◌}
 use lib.ListN.{get_or}
 use Rattle.results.proofs.Entries.{mark_none, mark_text}
-use borrow.Author.Rules.{rules}
 use Rattle.results.proofs.mark.Goals as goal
 
 pub returns-then-t-eq0 : goal.returns-then-t-eq0

@@ -4,7 +4,6 @@ use Rattle.bits.specs.Texts.{text_is}
 use Rattle.bits.specs.declared.Text.{Text}
 use Rattle.naming.specs.Names.{Own}
 use Rattle.results.proofs.Entries.{is_text, is_number}
-use borrow.Author.Rules.{rules}
 use Rattle.results.proofs.name_of.Goals as goal
 
 pub returns-then-e-lt-FIRST_MADE : goal.returns-then-e-lt-FIRST_MADE

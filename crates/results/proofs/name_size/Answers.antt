@@ -1,7 +1,6 @@
 -- By the two cases of a name; a text is as long as its place says. Assumes nothing.
 use native.Mathlib.Omega.{arith}
 use Rattle.results.proofs.Sizes.{length_own}
-use borrow.Author.Rules.{rules}
 use Rattle.results.proofs.name_size.Goals as goal
 
 pub returns-in-Own : goal.returns-in-Own

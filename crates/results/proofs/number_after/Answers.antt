@@ -1,11 +1,7 @@
 -- Invariant: the digits of v and then the bytes that are left are the first digit and all the bytes. Assumes nothing.
-use borrow.Author.Rules.{rules}
-use mathlib.Core.Path.{◌≡◌, refl, ◌∙◌}
-use mathlib.Core.List.{◌++◌}
-use Prim.Native.Nat.{◌+◌, ◌-◌, ◌≤◌, ◌<◌, ◌^◌}
+use mathlib.Core.Path.{refl, ◌∙◌}
+use Prim.Native.Nat.{◌<◌}
 use native.Mathlib.Omega.{arith}
-use Rattle.bits.specs.Bytes.{bytes_from}
-use Rattle.naming.specs.Names.{digits}
 use Rattle.results.proofs.Numbers.{digit_read, other_read, all_read, few_first, few_more, few_all}
 use Rattle.results.proofs.number_after.Goals as goal
 

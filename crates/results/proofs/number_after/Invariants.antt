@@ -1,11 +1,8 @@
-use borrow.Author.Rules.{rules}
-use mathlib.Core.Path.{◌≡◌, refl, ◌∙◌}
+use mathlib.Core.Path.{◌≡◌}
 use mathlib.Core.List.{◌++◌}
 use Prim.Native.Nat.{◌+◌, ◌-◌, ◌≤◌, ◌<◌, ◌^◌}
-use native.Mathlib.Omega.{arith}
 use Rattle.bits.specs.Bytes.{bytes_from}
 use Rattle.naming.specs.Names.{digits}
-use Rattle.results.proofs.Numbers.{digit_read, other_read, all_read, few_first, few_more, few_all}
 use Rattle.results.proofs.number_after.Given as goal
 
 abbrev pub invariant-loop-left : goal.invariant-loop-left

@@ -4,7 +4,6 @@ use Prim.Native.Nat.{◌<◌}
 use native.Mathlib.Omega.{arith}
 use lib.ListN.{get_or}
 use Rattle.results.proofs.Numbers.{first_digit, first_other, zero_alone, zero_before}
-use borrow.Author.Rules.{rules}
 use Rattle.results.proofs.number_in.Goals as goal
 
 pub returns-then-first-gt9 : goal.returns-then-first-gt9

@@ -1,7 +1,6 @@
 -- The place below, the mark above: `own_entry`. Assumes nothing.
 use native.Mathlib.Omega.{arith}
 use Rattle.results.proofs.Entries.{own_entry}
-use borrow.Author.Rules.{rules}
 use Rattle.results.proofs.own_entry.Goals as goal
 
 pub returns : goal.returns

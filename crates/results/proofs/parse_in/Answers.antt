@@ -5,7 +5,6 @@ use Rattle.bits.specs.Bytes.{same}
 use Rattle.bits.specs.Texts.{text_is}
 use Rattle.naming.specs.Names.{member}
 use Rattle.naming.specs.Inputs.{w_source_graphic, w_source_alpha, unsupported_inputs, parse_in}
-use borrow.Author.Rules.{rules}
 use Rattle.results.proofs.parse_in.Goals as goal
 
 pub returns-then-text_is : goal.returns-then-text_is

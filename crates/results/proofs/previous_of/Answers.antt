@@ -4,7 +4,6 @@ use mathlib.Core.Path.{sym, ap, ◌∙◌}
 use Rattle.tree.specs.Input as tree
 use Rattle.naming.specs.Names.{name_of, Label}
 use Rattle.results.proofs.Tables.{previous_step}
-use borrow.Author.Rules.{rules}
 use Rattle.results.proofs.previous_of.Goals as goal
 
 pub returns-then-n-eq0 : goal.returns-then-n-eq0

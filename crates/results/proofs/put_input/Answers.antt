@@ -5,7 +5,6 @@ use lib.ListN.{length}
 use Rattle.bits.proofs.Patches.{◌then◌, ◌counted◌}
 use Rattle.tree.specs.Input.{input_bytes}
 use Rattle.results.specs.Means.{input_is}
-use borrow.Author.Rules.{rules}
 use Rattle.results.proofs.put_input.Goals as goal
 
 pub put_u8-requires : goal.put_u8-requires

@@ -5,7 +5,6 @@ use native.Mathlib.Omega.{arith}
 use Rattle.bits.specs.Bytes.{bytes_from}
 use Rattle.bits.proofs.Patches.{◌then◌}
 use Rattle.naming.specs.Names.{made_name}
-use borrow.Author.Rules.{rules}
 use Rattle.results.proofs.put_made.Goals as goal
 
 pub put_u16-a-requires : goal.put_u16-a-requires

@@ -6,7 +6,6 @@ use Rattle.bits.proofs.Patches.{◌counted◌}
 use Rattle.tree.specs.Input.{text_bytes}
 use Rattle.results.specs.Means.{name_is}
 use Rattle.results.proofs.Sizes.{length_own}
-use borrow.Author.Rules.{rules}
 use Rattle.results.proofs.put_name.Goals as goal
 
 pub put_text-requires : goal.put_text-requires

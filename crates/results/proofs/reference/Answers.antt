@@ -4,7 +4,6 @@ use mathlib.Core.Bool.{true, false}
 use Rattle.bits.specs.Texts.{text_is}
 use Rattle.naming.specs.Names.{member}
 use Rattle.results.specs.Means.{names_is}
-use borrow.Author.Rules.{rules}
 use Rattle.results.proofs.reference.Goals as goal
 
 pub returns-then-has_name : goal.returns-then-has_name

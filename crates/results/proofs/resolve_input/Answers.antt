@@ -1,6 +1,5 @@
 -- By whether the input is given. Assumes nothing.
 use Rattle.naming.specs.Inputs.{resolve}
-use borrow.Author.Rules.{rules}
 use Rattle.results.proofs.resolve_input.Goals as goal
 
 pub returns-in-Is : goal.returns-in-Is

@@ -4,7 +4,6 @@ use Rattle.naming.specs.Inputs.{settled}
 use Rattle.results.specs.Means.{names_is, input_is}
 use Rattle.naming.proofs.Claim.{read_name}
 use Rattle.bits.specs.Bytes.{bytes_from}
-use borrow.Author.Rules.{rules}
 use Rattle.results.proofs.resolve_text.Goals as goal
 
 pub returns-in-SourceGraphic : goal.returns-in-SourceGraphic

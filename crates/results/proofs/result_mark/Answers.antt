@@ -2,7 +2,6 @@
 use native.Mathlib.Omega.{arith}
 use mathlib.Core.Path.{sym}
 use Rattle.results.proofs.Entries.{mark_result_none, mark_result}
-use borrow.Author.Rules.{rules}
 use Rattle.results.proofs.result_mark.Goals as goal
 
 pub returns-then-n-eq0 : goal.returns-then-n-eq0

@@ -1,15 +1,13 @@
 -- The loop goes from the first entry on. Its invariant: the name is an explicit one among all of them exactly if it is among those from i on. Assumes nothing.
-use borrow.Author.Rules.{rules}
 use mathlib.Core.Path.{◌≡◌, sym, refl, ◌∙◌}
 use mathlib.Core.Bool.{true, false}
-use Prim.Native.Nat.{◌-◌, ◌≤◌}
 use native.Mathlib.Omega.{arith}
 use lib.ListN.{get_or}
-use mathlib.Core.List.{◌++◌, map}
-use Rattle.naming.specs.Names.{w_result, member, own_names}
+use mathlib.Core.List.{◌++◌}
+use Rattle.naming.specs.Names.{w_result}
 use Rattle.naming.specs.Agreement.{is_own}
-use Rattle.results.specs.Means.{entry_is, labels_is}
-use Rattle.results.proofs.Tables.{from, taken_step, taken_end}
+use Rattle.results.specs.Means.{entry_is}
+use Rattle.results.proofs.Tables.{taken_step, taken_end}
 use Rattle.results.proofs.taken.Goals as goal
 
 pub loop-i-init : goal.loop-i-init

@@ -1,14 +1,9 @@
-use borrow.Author.Rules.{rules}
-use mathlib.Core.Path.{◌≡◌, sym, refl, ◌∙◌}
-use mathlib.Core.Bool.{true, false}
+use mathlib.Core.Path.{◌≡◌}
 use Prim.Native.Nat.{◌-◌, ◌≤◌}
-use native.Mathlib.Omega.{arith}
-use lib.ListN.{get_or}
 use mathlib.Core.List.{◌++◌, map}
 use Rattle.naming.specs.Names.{w_result, member, own_names}
-use Rattle.naming.specs.Agreement.{is_own}
 use Rattle.results.specs.Means.{entry_is, labels_is}
-use Rattle.results.proofs.Tables.{from, taken_step, taken_end}
+use Rattle.results.proofs.Tables.{from}
 use Rattle.results.proofs.taken.Given as goal
 
 abbrev pub invariant-loop-i : goal.invariant-loop-i

@@ -2,7 +2,6 @@
 use mathlib.Core.Path.{sym, ap}
 use Prim.Native.Nat.{ℕ, ◌%◌}
 use Rattle.bits.specs.declared.Text.{Text}
-use borrow.Author.Rules.{rules}
 use Rattle.results.proofs.text_of_length.Goals as goal
 
 pub returns : goal.returns

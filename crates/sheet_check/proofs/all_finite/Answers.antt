@@ -1,14 +1,8 @@
 -- Invariant: the test of all numbers is the test of those that are left. Assumes nothing.
 use borrow.Author.Rules.{rules}
-use Prim.Native.Nat.{◌*◌, ◌+◌, ◌≤◌}
-use mathlib.Core.Path.{◌∙◌, ◌≡◌, sym}
-use Rattle.field_tests.specs.Tests.{all}
+use mathlib.Core.Path.{◌∙◌, sym}
 use native.Mathlib.Omega.{arith}
-use lib.Ieee.Scale.{finite}
-use borrow.Author.Tests.{not-false, not-true}
 use Rattle.sheet_check.proofs.Numbering.{singles_none, singles_step}
-use Rattle.sheet_fields.specs.Fields.{size_number}
-use Rattle.svgtree.specs.Parse.{singles_from}
 use Rattle.sheet_check.proofs.all_finite.Goals as goal
 
 pub returns-then-not-is_finite_at : goal.returns-then-not-is_finite_at

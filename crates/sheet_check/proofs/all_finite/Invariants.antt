@@ -1,11 +1,7 @@
-use borrow.Author.Rules.{rules}
 use Prim.Native.Nat.{◌*◌, ◌+◌, ◌≤◌}
-use mathlib.Core.Path.{◌∙◌, ◌≡◌, sym}
+use mathlib.Core.Path.{◌≡◌}
 use Rattle.field_tests.specs.Tests.{all}
-use native.Mathlib.Omega.{arith}
 use lib.Ieee.Scale.{finite}
-use borrow.Author.Tests.{not-false, not-true}
-use Rattle.sheet_check.proofs.Numbering.{singles_none, singles_step}
 use Rattle.sheet_fields.specs.Fields.{size_number}
 use Rattle.svgtree.specs.Parse.{singles_from}
 use Rattle.sheet_check.proofs.all_finite.Given as goal

@@ -1,6 +1,5 @@
 -- Of a typed list the fault is its text's, which is the value's bytes; of any other attribute its numbers'. Assumes nothing.
 use mathlib.Core.Path.{◌∙◌, sym, ap}
-use borrow.Author.Rules.{rules}
 use borrow.Author.Tests.{eq-eqb, ne_eqb}
 use Rattle.sheet_fields.specs.Fields.{kind_typed}
 use Rattle.sheet_check.specs.Means.{text_fault, number_fault, attribute_fault}

@@ -2,9 +2,8 @@
 use mathlib.Core.Path.{◌∙◌, sym}
 use Rattle.svgtree.specs.Parse.{attribute_at}
 use Rattle.sheet_check.specs.Numbers.{attribute_numbers_ok}
-use borrow.Author.Tests.{eq-eqb, ne_eqb, not-false, not-true}
+use borrow.Author.Tests.{eq-eqb, ne_eqb}
 use Rattle.sheet_check.proofs.Numbering.{no_opacity_value, opacity_value}
-use borrow.Author.Rules.{rules}
 use Rattle.sheet_check.proofs.attribute_numbers_ok.Goals as goal
 
 pub returns-then-not-value_numbers_ok : goal.returns-then-not-value_numbers_ok

@@ -1,11 +1,10 @@
 -- Invariant: the worst fault of all attributes is the worse of what was found and of the faults that are left. Assumes nothing.
 use borrow.Author.Rules.{rules}
-use mathlib.Core.Path.{◌∙◌, ◌≡◌, ap, refl, sym}
+use mathlib.Core.Path.{◌∙◌, ap, refl, sym}
 use native.Mathlib.Omega.{arith}
 use mathlib.Core.List.{map}
 use Prim.Native.Nat.{◌-◌}
 use Rattle.svgtree.specs.Parse.{next_place, places_from}
-use Rattle.svgtree.proofs.Places.{Walked}
 use Rattle.sheet_check.specs.Means.{worse_of, worst, attribute_fault}
 use Rattle.sheet_check.proofs.Judging.{worse_none, worse_assoc, attributes_step, attributes_none}
 use Rattle.sheet_check.proofs.attributes_fault.Goals as goal

@@ -1,12 +1,8 @@
-use borrow.Author.Rules.{rules}
-use mathlib.Core.Path.{◌∙◌, ◌≡◌, ap, refl, sym}
-use native.Mathlib.Omega.{arith}
+use mathlib.Core.Path.{◌≡◌}
 use mathlib.Core.List.{map}
-use Prim.Native.Nat.{◌-◌}
-use Rattle.svgtree.specs.Parse.{next_place, places_from}
+use Rattle.svgtree.specs.Parse.{places_from}
 use Rattle.svgtree.proofs.Places.{Walked}
 use Rattle.sheet_check.specs.Means.{worse_of, worst, attribute_fault}
-use Rattle.sheet_check.proofs.Judging.{worse_none, worse_assoc, attributes_step, attributes_none}
 use Rattle.sheet_check.proofs.attributes_fault.Given as goal
 
 abbrev pub invariant-loop-left : goal.invariant-loop-left

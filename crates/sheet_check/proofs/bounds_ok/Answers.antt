@@ -2,8 +2,6 @@
 use mathlib.Core.Path.{◌∙◌, ap, sym}
 use Rattle.sheet_check.proofs.Numbering.{bounds_given, bounds_none, box_read}
 use Rattle.sheet_check.specs.Numbers.{exists}
-use borrow.Author.Tests.{not-false, not-true}
-use borrow.Author.Rules.{rules}
 use Rattle.sheet_check.proofs.bounds_ok.Goals as goal
 
 pub returns-then-byte-ne1 : goal.returns-then-byte-ne1

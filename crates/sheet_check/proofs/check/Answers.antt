@@ -2,8 +2,7 @@
 use mathlib.Core.Path.{◌∙◌, sym}
 use Rattle.sheet_check.specs.Refusals.{first_refusal}
 use Rattle.sheet_check.proofs.Judging.{grammar_broken, limits_broken, number_broken, no_fault}
-use borrow.Author.Tests.{le-ltb, lt-ltb, not-false, not-true}
-use borrow.Author.Rules.{rules}
+use borrow.Author.Tests.{le-ltb, lt-ltb}
 use Rattle.sheet_check.proofs.check.Goals as goal
 
 pub returns-then-sheet-lt-PAIRS : goal.returns-then-sheet-lt-PAIRS

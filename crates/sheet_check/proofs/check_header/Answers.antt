@@ -1,7 +1,5 @@
 -- Each return is a case of `header_refusal`, with those before it ruled out. Assumes nothing.
 use mathlib.Core.Path.{◌∙◌, sym}
-use borrow.Author.Tests.{not-false, not-true}
-use borrow.Author.Rules.{rules}
 use Rattle.svgtree.specs.Parse.{sheet_of}
 use Rattle.sheet_check.proofs.check_header.Goals as goal
 

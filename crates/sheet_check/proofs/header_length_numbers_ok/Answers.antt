@@ -3,7 +3,6 @@ use mathlib.Core.Path.{◌∙◌, sym}
 use borrow.Author.Tests.{eq-eqb, ne_eqb}
 use Rattle.svgtree.specs.Parse.{header_length}
 use Rattle.sheet_check.specs.Numbers.{value_numbers_ok}
-use borrow.Author.Rules.{rules}
 use Rattle.sheet_check.proofs.header_length_numbers_ok.Goals as goal
 
 pub returns-then-byte : goal.returns-then-byte

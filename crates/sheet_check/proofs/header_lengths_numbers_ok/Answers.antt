@@ -2,8 +2,6 @@
 use mathlib.Core.Path.{◌∙◌, sym}
 use Rattle.sheet_check.specs.Numbers.{header_lengths_numbers_ok}
 use Rattle.svgtree.specs.Parse.{header_of}
-use borrow.Author.Tests.{not-false, not-true}
-use borrow.Author.Rules.{rules}
 use Rattle.sheet_check.proofs.header_lengths_numbers_ok.Goals as goal
 
 pub returns-then-not-header_length_numbers_ok : goal.returns-then-not-header_length_numbers_ok

@@ -2,7 +2,6 @@
 use mathlib.Core.Path.{◌∙◌, sym}
 use borrow.Author.Tests.{eq-eqb, ne_eqb}
 use Rattle.sheet_check.specs.Refusals.{is_image}
-use borrow.Author.Rules.{rules}
 use Rattle.sheet_check.proofs.is_image.Goals as goal
 
 pub returns-then-depth-ne0 : goal.returns-then-depth-ne0

@@ -1,6 +1,6 @@
 -- Invariant: the test of all nodes is the test of those that are left. Assumes nothing.
 use borrow.Author.Rules.{rules}
-use Prim.Native.Nat.{◌-◌, ◌≤◌, ℕ}
+use Prim.Native.Nat.{◌-◌, ℕ}
 use mathlib.Core.Path.{◌∙◌, ◌≡◌, ap, sym}
 use Rattle.field_tests.specs.Tests.{all}
 use native.Mathlib.Omega.{arith}

@@ -1,11 +1,8 @@
-use borrow.Author.Rules.{rules}
-use Prim.Native.Nat.{◌-◌, ◌≤◌, ℕ}
-use mathlib.Core.Path.{◌∙◌, ◌≡◌, ap, sym}
+use Prim.Native.Nat.{◌-◌, ◌≤◌}
+use mathlib.Core.Path.{◌≡◌}
 use Rattle.field_tests.specs.Tests.{all}
-use native.Mathlib.Omega.{arith}
-use Rattle.svgtree.specs.Parse.{count_of, nodes_from, sheet_of}
-use Rattle.sheet_check.specs.Refusals.{is_no_image, no_image}
-use Rattle.sheet_check.proofs.Numbering.{nodes_all_none, nodes_all_step}
+use Rattle.svgtree.specs.Parse.{count_of, nodes_from}
+use Rattle.sheet_check.specs.Refusals.{is_no_image}
 use Rattle.sheet_check.proofs.no_image.Given as goal
 
 abbrev pub invariant-loop-i : goal.invariant-loop-i

@@ -1,6 +1,5 @@
 -- The node's attributes begin eight bytes on, and their count and the font size stand in its head. Assumes nothing.
 use mathlib.Core.Path.{◌∙◌, ap, ap₂}
-use borrow.Author.Rules.{rules}
 use Rattle.svgtree.specs.Parse.{node_from}
 use Rattle.sheet_check.specs.Means.{number_fault, worse_of, node_fault}
 use Rattle.sheet_check.proofs.node_fault.Goals as goal

@@ -1,6 +1,6 @@
 -- Invariant: the worst fault of all nodes is the worse of what was found and of the faults that are left. Assumes nothing.
 use borrow.Author.Rules.{rules}
-use Prim.Native.Nat.{◌+◌, ◌-◌, ◌≤◌, ℕ}
+use Prim.Native.Nat.{◌+◌, ◌-◌, ℕ}
 use mathlib.Core.Path.{◌∙◌, ◌≡◌, ap, sym}
 use native.Mathlib.Omega.{arith}
 use Rattle.svgtree.specs.Parse.{count_of, offset_of}

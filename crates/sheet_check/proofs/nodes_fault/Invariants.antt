@@ -1,10 +1,7 @@
-use borrow.Author.Rules.{rules}
-use Prim.Native.Nat.{◌+◌, ◌-◌, ◌≤◌, ℕ}
-use mathlib.Core.Path.{◌∙◌, ◌≡◌, ap, sym}
-use native.Mathlib.Omega.{arith}
-use Rattle.svgtree.specs.Parse.{count_of, offset_of}
-use Rattle.sheet_check.specs.Means.{worse_of, worst, node_fault, node_faults}
-use Rattle.sheet_check.proofs.Judging.{worse_none, worse_assoc, nodes_step, nodes_none}
+use Prim.Native.Nat.{◌-◌, ◌≤◌}
+use mathlib.Core.Path.{◌≡◌}
+use Rattle.svgtree.specs.Parse.{count_of}
+use Rattle.sheet_check.specs.Means.{worse_of, worst, node_faults}
 use Rattle.sheet_check.proofs.nodes_fault.Given as goal
 
 abbrev pub invariant-loop-i : goal.invariant-loop-i

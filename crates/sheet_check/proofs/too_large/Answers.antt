@@ -1,7 +1,6 @@
 -- The sheet's length, and then its node count. Assumes nothing.
 use borrow.Author.Tests.{le-ltb, lt-ltb}
 use Rattle.sheet_check.specs.Refusals.{too_large}
-use borrow.Author.Rules.{rules}
 use Rattle.sheet_check.proofs.too_large.Goals as goal
 
 pub returns-then-s-gt65536 : goal.returns-then-s-gt65536

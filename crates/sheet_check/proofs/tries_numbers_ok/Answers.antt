@@ -1,8 +1,6 @@
 -- One try after the other. Assumes nothing.
 use mathlib.Core.Path.{◌∙◌, sym}
-use borrow.Author.Tests.{not-false, not-true}
 use Rattle.sheet_check.specs.Numbers.{value_numbers_ok}
-use borrow.Author.Rules.{rules}
 use Rattle.sheet_check.proofs.tries_numbers_ok.Goals as goal
 
 pub returns-then-not-try_number_ok : goal.returns-then-not-try_number_ok

@@ -2,7 +2,6 @@
 use mathlib.Core.Path.{◌∙◌, sym}
 use borrow.Author.Tests.{eq-eqb, ne_eqb}
 use Rattle.svgtree.specs.Parse.{try_at}
-use borrow.Author.Rules.{rules}
 use Rattle.sheet_check.proofs.try_number_ok.Goals as goal
 
 pub returns-then-byte-ne1 : goal.returns-then-byte-ne1

@@ -3,7 +3,6 @@ use Rattle.sheet_check.proofs.Numbering.{no_numbers}
 use mathlib.Core.Path.{sym}
 use Rattle.svgtree.specs.Parse.{value_at}
 use Rattle.sheet_check.specs.Numbers.{value_numbers_ok}
-use borrow.Author.Rules.{rules}
 use Rattle.sheet_check.proofs.value_numbers_ok.Goals as goal
 
 pub returns-in-2 : goal.returns-in-2

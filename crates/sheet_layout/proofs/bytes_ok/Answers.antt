@@ -2,7 +2,6 @@
 use Rattle.sheet_layout.specs.Layout.{bytes_ok}
 use Rattle.bits.proofs.Runs.{length-bytes_from}
 use borrow.Author.Tests.{ne_eqb}
-use borrow.Author.Rules.{rules}
 use Rattle.sheet_layout.proofs.bytes_ok.Goals as goal
 
 pub returns-in-0 : goal.returns-in-0

@@ -1,5 +1,5 @@
 -- Invariant: the test of all records is the test of those that are left, after the last tag of depth 0. Assumes nothing.
-use Prim.Native.Nat.{◌-◌, ◌≤◌, ℕ}
+use Prim.Native.Nat.{◌-◌, ℕ}
 use mathlib.Core.Path.{◌∙◌, ◌≡◌, ap, sym}
 use Rattle.sheet_layout.specs.Records.{node_records_from}
 use Rattle.sheet_layout.proofs.Following.{depths_end, depths_step}
@@ -8,7 +8,6 @@ use borrow.Author.Rules.{rules}
 use native.Mathlib.Omega.{arith}
 use Rattle.svgtree.specs.Parse.{count_of}
 use mathlib.Core.Bool.{false}
-use borrow.Author.Tests.{not-false, not-true}
 use Rattle.sheet_layout.proofs.depths_ok.Goals as goal
 
 pub loop-i-init : goal.loop-i-init

@@ -1,15 +1,13 @@
 -- Invariant: the test of all attributes, which `looped` says place by place, is its test of those that are left. Assumes nothing.
 use borrow.Author.Rules.{rules}
-use Rattle.sheet_layout.proofs.Entries.{entries_looped, looped, looped_end, looped_step}
-use Rattle.sheet_layout.specs.Layout.{entries_ok, entry_ok}
+use Rattle.sheet_layout.proofs.Entries.{entries_looped, looped_end, looped_step}
+use Rattle.sheet_layout.specs.Layout.{entry_ok}
 use Rattle.sheet_layout.specs.Records.{entry_at}
 use Prim.Native.Nat.{◌+◌, ◌<◌, ◌≤◌}
 use mathlib.Core.Path.{◌∙◌, ◌≡◌, sym}
 use native.Mathlib.Omega.{arith}
-use borrow.Author.Tests.{le-leb, lt-leb, not-false, not-true}
-use mathlib.Core.List.{map}
-use Rattle.svgtree.specs.Parse.{attribute_id, attributes_place, places_from}
-use Rattle.svgtree.proofs.Places.{Walked}
+use borrow.Author.Tests.{le-leb, lt-leb}
+use Rattle.svgtree.specs.Parse.{attribute_id}
 use mathlib.Core.Bool.{true}
 use Rattle.sheet_layout.proofs.entries_ok.Goals as goal
 

@@ -1,15 +1,11 @@
-use borrow.Author.Rules.{rules}
-use Rattle.sheet_layout.proofs.Entries.{entries_looped, looped, looped_end, looped_step}
-use Rattle.sheet_layout.specs.Layout.{entries_ok, entry_ok}
+use Rattle.sheet_layout.proofs.Entries.{looped}
+use Rattle.sheet_layout.specs.Layout.{entries_ok}
 use Rattle.sheet_layout.specs.Records.{entry_at}
-use Prim.Native.Nat.{◌+◌, ◌<◌, ◌≤◌}
-use mathlib.Core.Path.{◌∙◌, ◌≡◌, sym}
-use native.Mathlib.Omega.{arith}
-use borrow.Author.Tests.{le-leb, lt-leb, not-false, not-true}
+use Prim.Native.Nat.{◌+◌}
+use mathlib.Core.Path.{◌≡◌}
 use mathlib.Core.List.{map}
-use Rattle.svgtree.specs.Parse.{attribute_id, attributes_place, places_from}
+use Rattle.svgtree.specs.Parse.{attributes_place, places_from}
 use Rattle.svgtree.proofs.Places.{Walked}
-use mathlib.Core.Bool.{true}
 use Rattle.sheet_layout.proofs.entries_ok.Given as goal
 
 abbrev pub invariant-loop-left : goal.invariant-loop-left

@@ -2,8 +2,7 @@
 use Rattle.sheet_layout.specs.Records.{entry_at}
 use Rattle.sheet_layout.specs.Layout.{entry_ok}
 use mathlib.Core.Path.{◌∙◌, sym}
-use borrow.Author.Tests.{eq-eqb, ne_eqb, not-false, not-true}
-use borrow.Author.Rules.{rules}
+use borrow.Author.Tests.{eq-eqb, ne_eqb}
 use Rattle.sheet_layout.proofs.entry_ok.Goals as goal
 
 pub returns-then-byte-ne0 : goal.returns-then-byte-ne0

@@ -4,8 +4,7 @@ use Rattle.sheet_layout.specs.Layout.{node_head_ok}
 use mathlib.Core.Path.{◌∙◌, sym}
 use native.Mathlib.Omega.{arith}
 use lib.ListN.{get_or}
-use borrow.Author.Tests.{le-leb, lt-leb, not-false, not-true}
-use borrow.Author.Rules.{rules}
+use borrow.Author.Tests.{le-leb, lt-leb}
 use Rattle.sheet_layout.proofs.head_ok.Goals as goal
 
 pub returns-then-byte-gt1 : goal.returns-then-byte-gt1

@@ -6,7 +6,6 @@ use native.Mathlib.Omega.{arith}
 use borrow.Author.Tests.{eq-eqb, le-leb, lt-leb, ne_eqb}
 use lib.ListN.{get_or}
 use Rattle.sheet_fields.specs.Fields.{unit_percent}
-use borrow.Author.Rules.{rules}
 use Rattle.sheet_layout.proofs.header_length_ok.Goals as goal
 
 pub returns-then-first-le-PERCENT : goal.returns-then-first-le-PERCENT

@@ -1,8 +1,6 @@
 -- One length after the other. Assumes nothing.
 use Rattle.sheet_layout.specs.Layout.{header_lengths_ok}
 use mathlib.Core.Path.{◌∙◌, sym}
-use borrow.Author.Tests.{not-false, not-true}
-use borrow.Author.Rules.{rules}
 use Rattle.sheet_layout.proofs.header_lengths_ok.Goals as goal
 
 pub returns-then-not-header_length_ok : goal.returns-then-not-header_length_ok

@@ -1,8 +1,7 @@
 -- Each return is a rule of `header_ok`, with those before it kept. Assumes nothing.
 use mathlib.Core.Path.{◌∙◌, sym}
 use Rattle.sheet_layout.specs.Layout.{header_ok}
-use borrow.Author.Tests.{eq-eqb, le-leb, lt-leb, ne_eqb, not-false, not-true}
-use borrow.Author.Rules.{rules}
+use borrow.Author.Tests.{eq-eqb, le-leb, lt-leb, ne_eqb}
 use Rattle.sheet_layout.proofs.header_ok.Goals as goal
 
 pub returns-then-byte-gt-ABSENT : goal.returns-then-byte-gt-ABSENT

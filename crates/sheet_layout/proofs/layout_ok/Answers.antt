@@ -1,8 +1,6 @@
 -- Each return is a rule of `layout_ok`, with those before it kept. Assumes nothing.
 use mathlib.Core.Path.{◌∙◌, sym}
 use Rattle.sheet_layout.specs.Layout.{layout_ok}
-use borrow.Author.Tests.{not-false, not-true}
-use borrow.Author.Rules.{rules}
 use Rattle.sheet_layout.proofs.layout_ok.Goals as goal
 
 pub returns-then-not-header_ok : goal.returns-then-not-header_ok

@@ -6,7 +6,6 @@ use native.Mathlib.Nat.{add-zero}
 use native.Mathlib.Omega.{arith}
 use borrow.Author.Tests.{eq-eqb, ne_eqb}
 use Rattle.bits.proofs.Runs.{length-bytes_from}
-use borrow.Author.Rules.{rules}
 use Rattle.sheet_layout.proofs.length_ok.Goals as goal
 
 pub returns-then-len-ne-LENGTH : goal.returns-then-len-ne-LENGTH

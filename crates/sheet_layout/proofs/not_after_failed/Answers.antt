@@ -4,7 +4,6 @@ use native.Mathlib.Omega.{arith}
 use lib.ListN.{get_or}
 use Rattle.sheet_fields.specs.Fields.{tries_second}
 use borrow.Author.Tests.{le-leb, lt-leb}
-use borrow.Author.Rules.{rules}
 use Rattle.sheet_layout.proofs.not_after_failed.Goals as goal
 
 pub returns-then-byte : goal.returns-then-byte

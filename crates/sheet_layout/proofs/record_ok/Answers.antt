@@ -2,8 +2,6 @@
 use Rattle.sheet_layout.specs.Records.{node_record_at}
 use Rattle.sheet_layout.specs.Layout.{node_record_ok}
 use mathlib.Core.Path.{◌∙◌, sym}
-use borrow.Author.Tests.{not-false, not-true}
-use borrow.Author.Rules.{rules}
 use Rattle.sheet_layout.proofs.record_ok.Goals as goal
 
 pub returns-then-not-head_ok : goal.returns-then-not-head_ok

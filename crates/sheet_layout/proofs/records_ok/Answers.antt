@@ -1,5 +1,5 @@
 -- Invariant: the test of all records is the test of those that are left. Assumes nothing.
-use Prim.Native.Nat.{◌-◌, ◌≤◌, ℕ}
+use Prim.Native.Nat.{◌-◌, ℕ}
 use mathlib.Core.Path.{◌∙◌, ◌≡◌, ap, sym}
 use Rattle.sheet_layout.specs.Layout.{node_record_ok}
 use Rattle.sheet_layout.proofs.Following.{records_ok_end, records_ok_step}
@@ -8,7 +8,6 @@ use Rattle.field_tests.specs.Tests.{all}
 use borrow.Author.Rules.{rules}
 use native.Mathlib.Omega.{arith}
 use Rattle.svgtree.specs.Parse.{count_of}
-use borrow.Author.Tests.{not-false, not-true}
 use Rattle.sheet_layout.proofs.records_ok.Goals as goal
 
 pub loop-i-init : goal.loop-i-init

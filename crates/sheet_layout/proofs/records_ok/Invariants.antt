@@ -1,13 +1,9 @@
-use Prim.Native.Nat.{◌-◌, ◌≤◌, ℕ}
-use mathlib.Core.Path.{◌∙◌, ◌≡◌, ap, sym}
+use Prim.Native.Nat.{◌-◌, ◌≤◌}
+use mathlib.Core.Path.{◌≡◌}
 use Rattle.sheet_layout.specs.Layout.{node_record_ok}
-use Rattle.sheet_layout.proofs.Following.{records_ok_end, records_ok_step}
 use Rattle.sheet_layout.specs.Records.{node_records_from}
 use Rattle.field_tests.specs.Tests.{all}
-use borrow.Author.Rules.{rules}
-use native.Mathlib.Omega.{arith}
 use Rattle.svgtree.specs.Parse.{count_of}
-use borrow.Author.Tests.{not-false, not-true}
 use Rattle.sheet_layout.proofs.records_ok.Given as goal
 
 abbrev pub invariant-loop-i : goal.invariant-loop-i

@@ -1,5 +1,5 @@
 -- Invariant: all records touch exactly if those that are left do, from the end of the last one on. Assumes nothing.
-use Prim.Native.Nat.{◌*◌, ◌+◌, ◌-◌, ◌≤◌, ℕ}
+use Prim.Native.Nat.{◌-◌, ℕ}
 use mathlib.Core.Path.{◌∙◌, ◌≡◌, ap₂, sym}
 use Rattle.svgtree.specs.Parse.{count_of, pair_place, pair_length_at, pair_offset}
 use Rattle.sheet_layout.specs.Records.{node_records_from}

@@ -1,12 +1,8 @@
-use Prim.Native.Nat.{◌*◌, ◌+◌, ◌-◌, ◌≤◌, ℕ}
-use mathlib.Core.Path.{◌∙◌, ◌≡◌, ap₂, sym}
-use Rattle.svgtree.specs.Parse.{count_of, pair_place, pair_length_at, pair_offset}
+use Prim.Native.Nat.{◌*◌, ◌+◌, ◌-◌, ◌≤◌}
+use mathlib.Core.Path.{◌≡◌}
+use Rattle.svgtree.specs.Parse.{count_of, pair_place}
 use Rattle.sheet_layout.specs.Records.{node_records_from}
 use Rattle.sheet_layout.specs.Layout.{touch}
-use Rattle.sheet_layout.proofs.Following.{touch_end, touch_step}
-use borrow.Author.Rules.{rules}
-use native.Mathlib.Omega.{arith}
-use borrow.Author.Tests.{eq-eqb, ne_eqb}
 use lib.ListN.{length}
 use Rattle.sheet_layout.proofs.records_touch.Given as goal
 

@@ -4,7 +4,6 @@ use Rattle.sheet_layout.specs.Layout.{bytes_ok}
 use borrow.Author.Tests.{le-leb, lt-leb}
 use Rattle.bits.proofs.Runs.{length-bytes_from}
 use Rattle.sheet_fields.specs.Fields.{size_text_most}
-use borrow.Author.Rules.{rules}
 use Rattle.sheet_layout.proofs.text_ok.Goals as goal
 
 pub returns-then-len-gt-TEXT_MOST : goal.returns-then-len-gt-TEXT_MOST

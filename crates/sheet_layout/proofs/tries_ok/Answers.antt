@@ -3,11 +3,10 @@ use Prim.Native.Nat.{◌+◌}
 use Rattle.sheet_layout.specs.Layout.{bytes_ok, try_ok}
 use Rattle.sheet_layout.proofs.Runs.{tries_in_lem}
 use mathlib.Core.Path.{◌∙◌, ◌≡◌, sym}
-use borrow.Author.Tests.{eq-eqb, ne_eqb, not-false, not-true}
+use borrow.Author.Tests.{eq-eqb, ne_eqb}
 use mathlib.Core.Bool.{false, true}
 use Rattle.bits.proofs.Runs.{length-bytes_from}
 use Rattle.sheet_fields.specs.Fields.{tries_second, tries_third}
-use borrow.Author.Rules.{rules}
 use Rattle.sheet_layout.proofs.tries_ok.Goals as goal
 
 pub returns-then-len-ne-TRIES : goal.returns-then-len-ne-TRIES

@@ -3,7 +3,6 @@ use Rattle.sheet_layout.specs.Layout.{word_ok}
 use borrow.Author.Tests.{eq-eqb, ne_eqb}
 use Rattle.bits.proofs.Sameness.{same_run_length}
 use mathlib.Core.Path.{sym}
-use borrow.Author.Rules.{rules}
 use Rattle.sheet_layout.proofs.word_ok.Goals as goal
 
 pub returns-then-id-ne-LIGHTING_COLOR : goal.returns-then-id-ne-LIGHTING_COLOR

@@ -1,5 +1,4 @@
 -- `subregion::bbox_size` meets its contract: each arm is a clause of the definition. Assumes nothing.
-use borrow.Author.Rules.{rules}
 use Rattle.subregion.proofs.bbox_size.Goals as goal
 
 pub returns-in-Is : goal.returns-in-Is

@@ -1,5 +1,4 @@
 -- `subregion::given_of` meets its contract: its numbers are the child's four lengths, converted, by the callees. Assumes nothing.
-use borrow.Author.Rules.{rules}
 use Rattle.subregion.proofs.given_of.Goals as goal
 
 pub returns : goal.returns

@@ -7,7 +7,6 @@ use Rattle.svgtree.specs.declared.MaybeNumber.{MaybeNumber}
 use Rattle.subregion.specs.declared.Given.{Given}
 use Rattle.subregion.specs.Subregions.{corner_in_box, side_in_box}
 use Rattle.subregion.specs.Means.{given_in_box}
-use borrow.Author.Rules.{rules}
 use Rattle.subregion.proofs.in_box.Goals as goal
 
 each : (g : Given) (box : Rect) (size : Size) {x y w h : MaybeNumber} → size ≡ size_of box

@@ -1,6 +1,5 @@
 -- `subregion::rect_within` meets its contract: its four numbers are the given ones or the region's, by the callees. Assumes nothing.
 use Rattle.subregion.specs.Subregions.{rect_within}
-use borrow.Author.Rules.{rules}
 use Rattle.subregion.proofs.rect_within.Goals as goal
 
 pub returns : goal.returns

@@ -11,7 +11,6 @@ use Rattle.region.specs.declared.Frame.{Frame}
 use Rattle.subregion.specs.declared.Given.{Given}
 use Rattle.subregion.specs.Subregions.{user_space_region, bbox_region, region_by, region_of}
 use Rattle.subregion.specs.Means.{given_in, given_in_box, rect_of_given}
-use borrow.Author.Rules.{rules}
 use Rattle.subregion.proofs.resolve_primitive_region.Goals as goal
 use Rattle.subregion.proofs.resolve_primitive_region.Goals.{in-UserSpaceOnUse, in-ObjectBoundingBox+in-Is}
 
@@ -38,8 +37,8 @@ returns c =
     let f = a.frame in
     let n = node_from a.s.now a.at in
     elim c.match-units.branch [
-        in-UserSpaceOnUse w ↦ in_user_space f n c.given_of-numbers.ensures w.in-UserSpaceOnUse.is (c.rect_within.ensures ∙ ap (rect_of_given f.region) w.numbers-is)
+      | in-UserSpaceOnUse w ↦ in_user_space f n c.given_of-numbers.ensures w.in-UserSpaceOnUse.is (c.rect_within.ensures ∙ ap (rect_of_given f.region) w.numbers-is)
       | in-ObjectBoundingBox+in-Is w ↦
           in_box_units f n c.given_of-numbers.ensures w.in-Is.b w.in-ObjectBoundingBox.is w.in-Is.is w.in_box-numbers.ensures
           (c.rect_within.ensures ∙ ap (rect_of_given f.region) w.numbers-is)
-      ]
+    ]

@@ -1,6 +1,5 @@
 -- `subregion::scale` meets its contract: it goes by primitiveUnits, as the definition does. Assumes nothing.
 use Rattle.subregion.specs.Subregions.{scale_of}
-use borrow.Author.Rules.{rules}
 use Rattle.subregion.proofs.scale.Goals as goal
 
 pub returns-in-UserSpaceOnUse : goal.returns-in-UserSpaceOnUse

@@ -1,6 +1,5 @@
 -- `subregion::side_in_box` meets its contract: each arm is a clause of the definition. Assumes nothing.
 use mathlib.Core.Path.{refl}
-use borrow.Author.Rules.{rules}
 use Rattle.subregion.proofs.side_in_box.Goals as goal
 
 pub returns-in-Is : goal.returns-in-Is

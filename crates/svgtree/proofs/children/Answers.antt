@@ -1,7 +1,7 @@
 -- Invariant: the first k nodes after the node are children, and the children are these and those among the nodes that are left. Assumes nothing.
 use borrow.Author.Rules.{rules}
-use Rattle.svgtree.proofs.Following.{Begun, begun_all, begun_more, begun_none, begun_stop}
-use Prim.Native.Nat.{◌+◌, ◌-◌, ◌≤◌}
+use Rattle.svgtree.proofs.Following.{begun_all, begun_more, begun_none, begun_stop}
+use Prim.Native.Nat.{◌+◌, ◌-◌}
 use mathlib.Core.Path.{◌∙◌, ◌≡◌, refl, sym}
 use native.Mathlib.Omega.{arith}
 use Rattle.svgtree.specs.Parse.{count_of}

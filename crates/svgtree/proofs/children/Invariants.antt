@@ -1,8 +1,6 @@
-use borrow.Author.Rules.{rules}
-use Rattle.svgtree.proofs.Following.{Begun, begun_all, begun_more, begun_none, begun_stop}
+use Rattle.svgtree.proofs.Following.{Begun}
 use Prim.Native.Nat.{◌+◌, ◌-◌, ◌≤◌}
-use mathlib.Core.Path.{◌∙◌, ◌≡◌, refl, sym}
-use native.Mathlib.Omega.{arith}
+use mathlib.Core.Path.{◌≡◌}
 use Rattle.svgtree.specs.Parse.{count_of}
 use Rattle.svgtree.proofs.children.Given as goal
 

@@ -1,6 +1,5 @@
 -- `units::convert_length` meets its contract: each arm is the definition's formula for its unit, and the percentage's arm is what its two callees give. Assumes nothing.
 use Rattle.units.specs.Lengths.{convert_length}
-use borrow.Author.Rules.{rules}
 use Rattle.units.proofs.convert_length.Goals as goal
 
 pub returns-in-None : goal.returns-in-None

@@ -1,5 +1,4 @@
 -- `units::convert_percent` meets its contract: each arm is the definition's formula for its units. Assumes nothing.
-use borrow.Author.Rules.{rules}
 use Rattle.units.proofs.convert_percent.Goals as goal
 
 pub returns-in-ObjectBoundingBox : goal.returns-in-ObjectBoundingBox

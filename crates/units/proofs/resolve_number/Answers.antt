@@ -1,5 +1,4 @@
 -- `units::resolve_number` meets its contract: it converts the length that is given, or the default. Assumes nothing.
-use borrow.Author.Rules.{rules}
 use Rattle.units.proofs.resolve_number.Goals as goal
 
 pub returns-in-Is : goal.returns-in-Is

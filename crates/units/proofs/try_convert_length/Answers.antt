@@ -1,5 +1,4 @@
 -- `units::try_convert_length` meets its contract: each arm is a clause of the definition. Assumes nothing.
-use borrow.Author.Rules.{rules}
 use Rattle.units.proofs.try_convert_length.Goals as goal
 
 pub returns-in-Is : goal.returns-in-Is

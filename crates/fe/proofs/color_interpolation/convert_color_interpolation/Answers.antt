@@ -1,6 +1,5 @@
 -- One word is tested, and any other text gives the default. Assumes nothing.
 use Rattle.fe.proofs.Keywords.{hit, miss, other}
-use borrow.Author.Rules.{rules}
 use Rattle.fe.proofs.color_interpolation.convert_color_interpolation.Goals as goal
 
 pub returns-then-is_word : goal.returns-then-is_word

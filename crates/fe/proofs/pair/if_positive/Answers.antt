@@ -1,8 +1,6 @@
 -- The two tests of the code are those of the definition. Assumes nothing.
 use mathlib.Core.Path.{sym, ◌∙◌}
-use borrow.Author.Tests.{not-true, not-false}
 use Rattle.fe.specs.Pairs.{if_positive}
-use borrow.Author.Rules.{rules}
 use Rattle.fe.proofs.pair.if_positive.Goals as goal
 
 pub returns-then-not-is_positive : goal.returns-then-not-is_positive

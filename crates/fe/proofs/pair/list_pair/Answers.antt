@@ -1,7 +1,6 @@
 -- By the list's length, with a law for each of the three answers. Assumes nothing.
 use mathlib.Core.Path.{sym, ◌∙◌}
 use Rattle.fe.proofs.Pairs.{of_one, of_two, of_others}
-use borrow.Author.Rules.{rules}
 use Rattle.fe.proofs.pair.list_pair.Goals as goal
 
 pub returns-then-n-eq1 : goal.returns-then-n-eq1

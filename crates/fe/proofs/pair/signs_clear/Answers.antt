@@ -1,7 +1,6 @@
 -- The two tests of the code are those of the definition. Assumes nothing.
 use mathlib.Core.Path.{sym, ◌∙◌}
 use Rattle.fe.specs.Pairs.{signs_clear}
-use borrow.Author.Rules.{rules}
 use Rattle.fe.proofs.pair.signs_clear.Goals as goal
 
 pub returns-then-is_sign_negative : goal.returns-then-is_sign_negative

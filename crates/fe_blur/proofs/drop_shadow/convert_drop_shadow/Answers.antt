@@ -1,5 +1,4 @@
 -- The fields are those of the three calls, each as its contract has it. Assumes nothing.
-use borrow.Author.Rules.{rules}
 use Rattle.fe_blur.proofs.drop_shadow.convert_drop_shadow.Goals as goal
 
 pub returns : goal.returns

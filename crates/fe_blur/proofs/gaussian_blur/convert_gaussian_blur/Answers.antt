@@ -1,5 +1,4 @@
 -- Both fields are those of the one call. Assumes nothing.
-use borrow.Author.Rules.{rules}
 use Rattle.fe_blur.proofs.gaussian_blur.convert_gaussian_blur.Goals as goal
 
 pub returns : goal.returns

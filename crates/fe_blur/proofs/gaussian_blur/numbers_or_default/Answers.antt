@@ -1,5 +1,4 @@
 -- By cases on whether the attribute is there. Assumes nothing.
-use borrow.Author.Rules.{rules}
 use Rattle.fe_blur.proofs.gaussian_blur.numbers_or_default.Goals as goal
 
 pub returns-in-Is : goal.returns-in-Is

@@ -4,7 +4,6 @@ use mathlib.Core.Bool.{Bool, cond}
 use lib.Ieee.{Float, binary32, mul}
 use Rattle.num.specs.Constants.{plus_zero}
 use Rattle.fe_blur.specs.GaussianBlur.{deviation}
-use borrow.Author.Rules.{rules}
 use Rattle.fe_blur.proofs.gaussian_blur.scaled_deviation.Goals as goal
 
 -- the scaled number, or 0, by what the test said of it

@@ -1,6 +1,5 @@
 -- By cases on the third, the first and the second try, as the definition goes. Assumes nothing.
 use Rattle.num.specs.Means.{double_of}
-use borrow.Author.Rules.{rules}
 use Rattle.fe_blur.proofs.gaussian_blur.tried_numbers.Goals as goal
 
 pub returns-in-Is : goal.returns-in-Is

@@ -1,5 +1,4 @@
 -- `blend::convert_blend` meets its contract: `mode` reads the text that the node has. Assumes nothing.
-use borrow.Author.Rules.{rules}
 use Rattle.fe_color.proofs.blend.convert_blend.Goals as goal
 
 pub returns : goal.returns

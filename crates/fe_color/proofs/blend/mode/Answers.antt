@@ -1,17 +1,6 @@
 -- The tests are the words of the first half of the table, in order, and `later_mode` has the rest: behind a test that failed the answer is that of the
 -- words after it (`miss`). Assumes nothing.
-use Prim.Native.Nat.{ℕ}
-use mathlib.Core.Path.{◌≡◌}
-use mathlib.Core.List.{List}
-use mathlib.Core.Option.{Option}
-use lib.ListN.{drop}
-use Rattle.bits.specs.Texts.{maybe_text_is}
-use Rattle.tree.specs.declared.BlendMode.{BlendMode}
-use Rattle.tree.specs.declared.BlendMode.TheVariants.{Normal}
-use Rattle.fe.specs.Keywords.{keyword}
 use Rattle.fe.proofs.Keywords.{hit, miss}
-use Rattle.fe_color.specs.Blend.{modes}
-use borrow.Author.Rules.{rules}
 use Rattle.fe_color.proofs.blend.mode.Goals as goal
 
 pub returns-then-is_word : goal.returns-then-is_word

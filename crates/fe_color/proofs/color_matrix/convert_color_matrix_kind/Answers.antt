@@ -1,7 +1,6 @@
 -- `color_matrix::convert_color_matrix_kind` meets its contract: each test is a word of the table, and what is called for it gives the word's value. Assumes nothing.
 use mathlib.Core.Path.{◌∙◌}
 use Rattle.fe.proofs.Keywords.{hit, miss, other}
-use borrow.Author.Rules.{rules}
 use Rattle.fe_color.proofs.color_matrix.convert_color_matrix_kind.Goals as goal
 
 pub returns-then-is_word : goal.returns-then-is_word

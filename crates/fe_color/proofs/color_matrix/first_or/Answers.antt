@@ -2,7 +2,6 @@
 use Rattle.fe_color.proofs.First.{first_none, first_some}
 use Rattle.number_list.specs.Lists.{numbers_is}
 use mathlib.Core.Path.{sym, ◌∙◌}
-use borrow.Author.Rules.{rules}
 use Rattle.fe_color.proofs.color_matrix.first_or.Goals as goal
 
 pub returns-then-numbers_len-eq0 : goal.returns-then-numbers_len-eq0

@@ -1,6 +1,5 @@
 -- `color_matrix::matrix` meets its contract: the length of the list is tested as in `matrix_of`. Assumes nothing.
 use borrow.Author.Tests.{eq-eqb, ne_eqb}
-use borrow.Author.Rules.{rules}
 use Rattle.fe_color.proofs.color_matrix.matrix.Goals as goal
 
 pub returns-then-numbers_len-eq20 : goal.returns-then-numbers_len-eq20

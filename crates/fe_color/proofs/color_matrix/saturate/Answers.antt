@@ -1,7 +1,6 @@
 -- `color_matrix::saturate` meets its contract: the bound of the first number, by whether there is a list. Assumes nothing.
 use mathlib.Core.Path.{ap}
 use Rattle.tree.specs.Kinds.{Saturate}
-use borrow.Author.Rules.{rules}
 use Rattle.fe_color.proofs.color_matrix.saturate.Goals as goal
 
 pub returns-in-Is : goal.returns-in-Is

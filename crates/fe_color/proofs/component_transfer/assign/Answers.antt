@@ -1,6 +1,5 @@
 -- `component_transfer::assign` meets its contract: each channel is what `channel` gives for its tag. Assumes nothing.
 use Rattle.fe_color.specs.Means.{assigned}
-use borrow.Author.Rules.{rules}
 use Rattle.fe_color.proofs.component_transfer.assign.Goals as goal
 
 pub returns : goal.returns

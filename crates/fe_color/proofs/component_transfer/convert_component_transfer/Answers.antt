@@ -1,12 +1,12 @@
 -- `component_transfer::convert_component_transfer` meets its contract. The loop's invariant: the functions of all children are those so far, with what the children from here on change. Assumes nothing.
 use borrow.Author.Rules.{rules}
-use Prim.Native.Nat.{◌+◌, ◌-◌, ◌≤◌}
+use Prim.Native.Nat.{◌+◌, ◌-◌}
 use native.Mathlib.Nat.{add-zero}
 use native.Mathlib.Omega.{arith}
 use mathlib.Core.Path.{◌≡◌}
 use Rattle.svgtree.specs.Parse.{nodes_from}
 use Rattle.tree.specs.Means.{component_transfer_is}
-use Rattle.fe_color.specs.ComponentTransfer.{transfer_from, component_transfer_of}
+use Rattle.fe_color.specs.ComponentTransfer.{component_transfer_of}
 use Rattle.fe_color.proofs.Transfer.{turn, end}
 use Rattle.fe_color.proofs.component_transfer.convert_component_transfer.Goals as goal
 

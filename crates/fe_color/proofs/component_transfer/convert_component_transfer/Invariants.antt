@@ -1,12 +1,8 @@
-use borrow.Author.Rules.{rules}
 use Prim.Native.Nat.{◌+◌, ◌-◌, ◌≤◌}
-use native.Mathlib.Nat.{add-zero}
-use native.Mathlib.Omega.{arith}
 use mathlib.Core.Path.{◌≡◌}
 use Rattle.svgtree.specs.Parse.{nodes_from}
 use Rattle.tree.specs.Means.{component_transfer_is}
 use Rattle.fe_color.specs.ComponentTransfer.{transfer_from, component_transfer_of}
-use Rattle.fe_color.proofs.Transfer.{turn, end}
 use Rattle.fe_color.proofs.component_transfer.convert_component_transfer.Given as goal
 
 abbrev pub invariant-loop-k : goal.invariant-loop-k

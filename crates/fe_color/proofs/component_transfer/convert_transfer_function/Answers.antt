@@ -1,18 +1,10 @@
 -- The tests are the words of the table, in order, and what is called for a word gives its value: behind a test that failed the answer is that of the words
 -- after it (`miss`). Assumes nothing.
-use Prim.Native.Nat.{ℕ}
-use mathlib.Core.Path.{◌≡◌, ap, ◌∙◌}
-use mathlib.Core.List.{List}
-use mathlib.Core.Option.{Option, none, some}
-use lib.ListN.{drop}
-use Rattle.bits.specs.Texts.{maybe_text_is}
-use Rattle.svgtree.specs.Values.{Node}
-use Rattle.svgtree.specs.Parse.{node_from}
-use Rattle.tree.specs.Kinds.{TransferFunction, Table, Discrete}
-use Rattle.fe.specs.Keywords.{keyword}
+use mathlib.Core.Path.{ap, ◌∙◌}
+use mathlib.Core.Option.{some}
+use Rattle.tree.specs.Kinds.{Table, Discrete}
 use Rattle.fe.proofs.Keywords.{hit, miss, other}
-use Rattle.fe_color.specs.ComponentTransfer.{function_types, transfer_function_of}
-use borrow.Author.Rules.{rules}
+use Rattle.fe_color.specs.ComponentTransfer.{transfer_function_of}
 use Rattle.fe_color.proofs.component_transfer.convert_transfer_function.Goals as goal
 
 pub returns-then-is_word : goal.returns-then-is_word

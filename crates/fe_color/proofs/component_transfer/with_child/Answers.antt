@@ -7,7 +7,6 @@ use Rattle.tree.specs.Means.{transfer_function_is, component_transfer_is}
 use Rattle.fe_color.specs.ComponentTransfer.{transfer_function_of}
 use Rattle.fe_color.specs.Means.{assigned}
 use Rattle.fe_color.proofs.Transfer.{child_yes, child_no}
-use borrow.Author.Rules.{rules}
 use Rattle.fe_color.proofs.component_transfer.with_child.Goals as goal
 
 pub returns-in-Is : goal.returns-in-Is

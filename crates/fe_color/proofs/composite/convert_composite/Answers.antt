@@ -1,18 +1,6 @@
 -- The tests are the words of the table, in order: behind a test that failed the answer is that of the words after it (`miss`). Assumes nothing.
-use Prim.Native.Nat.{ℕ}
-use mathlib.Core.Path.{◌≡◌, ◌∙◌}
-use mathlib.Core.List.{List}
-use mathlib.Core.Option.{Option}
-use lib.ListN.{drop}
-use Rattle.bits.specs.Texts.{maybe_text_is}
-use Rattle.svgtree.specs.Values.{Node}
-use Rattle.svgtree.specs.Parse.{node_from}
-use Rattle.tree.specs.declared.CompositeOperator.{CompositeOperator}
-use Rattle.tree.specs.declared.CompositeOperator.TheVariants.{Over}
-use Rattle.fe.specs.Keywords.{keyword}
+use mathlib.Core.Path.{◌∙◌}
 use Rattle.fe.proofs.Keywords.{hit, miss, other}
-use Rattle.fe_color.specs.Composite.{operators}
-use borrow.Author.Rules.{rules}
 use Rattle.fe_color.proofs.composite.convert_composite.Goals as goal
 
 pub returns-then-is_word : goal.returns-then-is_word

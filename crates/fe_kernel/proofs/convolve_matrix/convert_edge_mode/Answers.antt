@@ -1,5 +1,4 @@
 -- The words are compared in the order of the table. Assumes nothing.
-use borrow.Author.Rules.{rules}
 use Rattle.fe.proofs.Keywords.{hit, miss, other}
 use Rattle.fe_kernel.proofs.convolve_matrix.convert_edge_mode.Goals as goal
 

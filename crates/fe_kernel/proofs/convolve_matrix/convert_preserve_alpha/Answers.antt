@@ -1,5 +1,4 @@
 -- The text is what `text_of` ensures. Assumes nothing.
-use borrow.Author.Rules.{rules}
 use Rattle.fe_kernel.proofs.convolve_matrix.convert_preserve_alpha.Goals as goal
 
 pub returns : goal.returns

@@ -1,6 +1,5 @@
 -- Both factors have 32 bits, so the product is exact in 64. Assumes nothing.
 use Rattle.fe_kernel.proofs.Products.{product_fits}
-use borrow.Author.Rules.{rules}
 use Rattle.fe_kernel.proofs.convolve_matrix.is_filled.Goals as goal
 
 pub overflow_mul-result : goal.overflow_mul-result

@@ -1,5 +1,4 @@
 -- The default is what `default_divisor` ensures. Assumes nothing.
-use borrow.Author.Rules.{rules}
 use Rattle.fe_kernel.proofs.divisor.convert_divisor.Goals as goal
 
 pub returns : goal.returns

@@ -1,7 +1,6 @@
 -- Both returns go by the test against zero. Assumes nothing.
 use mathlib.Core.Path.{sym, ◌∙◌}
 use Rattle.fe_kernel.specs.Divisor.{default_divisor}
-use borrow.Author.Rules.{rules}
 use Rattle.fe_kernel.proofs.divisor.default_divisor.Goals as goal
 
 pub returns-then-approx_zero_ulps : goal.returns-then-approx_zero_ulps

@@ -1,13 +1,11 @@
 -- The sum of the whole list is the sum of the total and the numbers from i on, which are left from the place on. Assumes nothing.
 use borrow.Author.Rules.{rules}
-use Prim.Native.Nat.{◌-◌, ◌≤◌, ◌<◌}
-use mathlib.Core.Path.{◌≡◌, refl, sym, ◌∙◌}
+use Prim.Native.Nat.{◌≤◌, ◌<◌}
+use mathlib.Core.Path.{refl, sym, ◌∙◌}
 use native.Mathlib.Omega.{arith}
-use lib.ListN.{length, drop}
-use Rattle.number_list.specs.Lists.{rest_is, numbers_is}
+use lib.ListN.{length}
+use Rattle.number_list.specs.Lists.{numbers_is}
 use Rattle.number_list.proofs.Lists.{walked_first, walked_rest}
-use Rattle.num.specs.Constants.{plus_zero}
-use Rattle.fe_kernel.specs.Divisor.{sum_from}
 use Rattle.fe_kernel.proofs.Sums.{sum_next, sum_end}
 use Rattle.fe_kernel.proofs.divisor.sum.Goals as goal
 

@@ -1,6 +1,5 @@
 -- Each arm is the definition's case; an absent second number is the first. Assumes nothing.
 use Rattle.fe_kernel.specs.Order.{order_in}
-use borrow.Author.Rules.{rules}
 use Rattle.fe_kernel.proofs.order.convert_order.Goals as goal
 
 pub returns-in-Is : goal.returns-in-Is

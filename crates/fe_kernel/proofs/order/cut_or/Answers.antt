@@ -3,7 +3,6 @@ use mathlib.Core.Path.{ap, ◌∙◌}
 use Rattle.tree.proofs.Signed.{back}
 use Rattle.fe_kernel.specs.Order.{above_zero}
 use Rattle.fe_kernel.proofs.Signs.{cut_back}
-use borrow.Author.Rules.{rules}
 use Rattle.fe_kernel.proofs.order.cut_or.Goals as goal
 
 pub returns-in-Is : goal.returns-in-Is

@@ -4,7 +4,6 @@ use lib.IntN.{ℤ}
 use Rattle.tree.proofs.Signed.{back}
 use Rattle.fe_kernel.specs.Target.{target_inside, target_of}
 use Rattle.fe_kernel.proofs.Signs.{cut_back}
-use borrow.Author.Rules.{rules}
 use Rattle.fe_kernel.proofs.target.parse_target.Goals as goal
 
 pub returns-in-Is : goal.returns-in-Is

@@ -1,7 +1,6 @@
 -- A negative target is outside; any other is its own size. Assumes nothing.
 use mathlib.Core.Path.{◌∙◌}
 use Rattle.fe_kernel.proofs.Signs.{negative_inside, above_inside}
-use borrow.Author.Rules.{rules}
 use Rattle.fe_kernel.proofs.target.target_inside.Goals as goal
 
 pub returns-then-t-lt0 : goal.returns-then-t-lt0

@@ -1,5 +1,4 @@
 -- Both returns go by whether a light source was found. Assumes nothing.
-use borrow.Author.Rules.{rules}
 use Rattle.fe_light.proofs.diffuse_lighting.convert_diffuse_lighting.Goals as goal
 
 pub returns-in_default : goal.returns-in_default

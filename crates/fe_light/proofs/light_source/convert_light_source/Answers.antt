@@ -1,10 +1,8 @@
 -- The first light among all n children is the first among the `left` that follow node k, as long as none was found. Assumes nothing.
 use borrow.Author.Rules.{rules}
 use Prim.Native.Nat.{◌+◌}
-use mathlib.Core.Path.{◌≡◌, refl, sym, ◌∙◌}
+use mathlib.Core.Path.{refl, sym, ◌∙◌}
 use native.Mathlib.Omega.{arith}
-use Rattle.svgtree.specs.Parse.{nodes_from}
-use Rattle.fe_light.specs.LightSource.{light_source_of}
 use Rattle.fe_light.proofs.Turns.{first_is, first_not, none_left}
 use Rattle.fe_light.proofs.light_source.convert_light_source.Goals as goal
 

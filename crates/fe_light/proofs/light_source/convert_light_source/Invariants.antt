@@ -1,10 +1,7 @@
-use borrow.Author.Rules.{rules}
 use Prim.Native.Nat.{◌+◌}
-use mathlib.Core.Path.{◌≡◌, refl, sym, ◌∙◌}
-use native.Mathlib.Omega.{arith}
+use mathlib.Core.Path.{◌≡◌}
 use Rattle.svgtree.specs.Parse.{nodes_from}
 use Rattle.fe_light.specs.LightSource.{light_source_of}
-use Rattle.fe_light.proofs.Turns.{first_is, first_not, none_left}
 use Rattle.fe_light.proofs.light_source.convert_light_source.Given as goal
 
 abbrev pub invariant-loop-left : goal.invariant-loop-left

@@ -1,5 +1,4 @@
 -- Each number is what `number_or` ensures. Assumes nothing.
-use borrow.Author.Rules.{rules}
 use Rattle.fe_light.proofs.light_source.distant_light.Goals as goal
 
 pub returns : goal.returns

@@ -1,7 +1,6 @@
 -- Each arm is the definition's case at its tag, and the last has none of the three. Assumes nothing.
 use borrow.Author.Tests.{ne_eqb}
 use Rattle.fe_light.specs.LightSource.{light_of}
-use borrow.Author.Rules.{rules}
 use Rattle.fe_light.proofs.light_source.light.Goals as goal
 
 pub returns-in-13 : goal.returns-in-13

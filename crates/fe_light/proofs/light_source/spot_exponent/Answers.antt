@@ -1,6 +1,5 @@
 -- Both arms go by the test of `is_positive`. Assumes nothing.
 use mathlib.Core.Path.{sym, ◌∙◌}
-use borrow.Author.Rules.{rules}
 use Rattle.fe_light.proofs.light_source.spot_exponent.Goals as goal
 
 pub returns-then-is_positive : goal.returns-then-is_positive

@@ -1,5 +1,4 @@
 -- Each field is what its call ensures. Assumes nothing.
-use borrow.Author.Rules.{rules}
 use Rattle.fe_light.proofs.light_source.spot_light.Goals as goal
 
 pub returns : goal.returns

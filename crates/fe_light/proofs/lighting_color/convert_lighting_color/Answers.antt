@@ -1,6 +1,5 @@
 -- Both arms go by whether the text is the word. Assumes nothing.
 use mathlib.Core.Path.{sym, ◌∙◌}
-use borrow.Author.Rules.{rules}
 use Rattle.fe_light.proofs.lighting_color.convert_lighting_color.Goals as goal
 
 pub returns-then-is_word : goal.returns-then-is_word

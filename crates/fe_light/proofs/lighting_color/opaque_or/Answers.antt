@@ -1,5 +1,4 @@
 -- The arm is the definition's case. Assumes nothing.
-use borrow.Author.Rules.{rules}
 use Rattle.fe_light.proofs.lighting_color.opaque_or.Goals as goal
 
 pub returns-in-Is : goal.returns-in-Is

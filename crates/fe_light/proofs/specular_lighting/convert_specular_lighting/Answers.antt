@@ -1,7 +1,5 @@
 -- The returns go by whether a light source was found and by the exponent's range. Assumes nothing.
-use borrow.Author.Tests.{not-true, not-false}
 use mathlib.Core.Path.{sym, ◌∙◌}
-use borrow.Author.Rules.{rules}
 use Rattle.fe_light.proofs.specular_lighting.convert_specular_lighting.Goals as goal
 
 pub returns-in_default : goal.returns-in_default

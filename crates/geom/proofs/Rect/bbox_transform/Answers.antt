@@ -1,5 +1,4 @@
 -- `geom::Rect::bbox_transform` meets its contract: each operation is one of the definition, in its order. Assumes nothing.
-use borrow.Author.Rules.{rules}
 use mathlib.Core.Path.{◌≡◌, ◌∙◌}
 use lib.Ieee.{Float, binary32, add, mul}
 use Rattle.geom.specs.declared.Rect.{Rect}

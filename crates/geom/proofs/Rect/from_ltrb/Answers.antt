@@ -1,5 +1,4 @@
 -- `geom::Rect::from_ltrb` meets its contract: its two tests are the two sides of the definition. Assumes nothing.
-use borrow.Author.Rules.{rules}
 use mathlib.Core.Path.{sym, ◌∙◌}
 use Rattle.geom.specs.Geometry.{of_edges}
 use Rattle.geom.proofs.Rect.from_ltrb.Goals as goal

@@ -1,9 +1,7 @@
 -- The number goes on while its name is taken, at most to the first that is free. Assumes nothing.
-use borrow.Author.Rules.{rules}
 use mathlib.Core.Path.{sym, refl, ◌∙◌}
-use Prim.Native.Nat.{◌-◌, ◌≤◌}
 use native.Mathlib.Omega.{arith}
-use Rattle.naming.specs.Names.{first_free, own_names}
+use Rattle.naming.specs.Names.{own_names}
 use Rattle.naming.proofs.Naming.{free_at_least, free_at_most, free_go, free_stop}
 use Rattle.results.specs.Means.{labels_is}
 use Rattle.results.proofs.Tables.{taken_few}

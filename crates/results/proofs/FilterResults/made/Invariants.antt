@@ -1,11 +1,6 @@
-use borrow.Author.Rules.{rules}
-use mathlib.Core.Path.{sym, refl, ◌∙◌}
 use Prim.Native.Nat.{◌-◌, ◌≤◌}
-use native.Mathlib.Omega.{arith}
 use Rattle.naming.specs.Names.{first_free, own_names}
-use Rattle.naming.proofs.Naming.{free_at_least, free_at_most, free_go, free_stop}
 use Rattle.results.specs.Means.{labels_is}
-use Rattle.results.proofs.Tables.{taken_few}
 use Rattle.results.proofs.FilterResults.made.Given as goal
 
 abbrev pub invariant-loop-k : goal.invariant-loop-k

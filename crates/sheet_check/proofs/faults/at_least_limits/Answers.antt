@@ -1,5 +1,4 @@
 -- Each arm is a case of `at_least_limits`: a text outside the grammar stays one. Assumes nothing.
-use borrow.Author.Rules.{rules}
 use Rattle.sheet_check.proofs.faults.at_least_limits.Goals as goal
 
 pub returns-in-Nothing : goal.returns-in-Nothing

@@ -2,7 +2,6 @@
 use mathlib.Core.Path.{ap, ◌∙◌}
 use Rattle.svgtree.specs.Readers.{value_under}
 use Rattle.svgtree.proofs.Lookup.{attributes_of}
-use borrow.Author.Rules.{rules}
 use Rattle.svgtree.proofs.attributes.find.Goals as goal
 
 pub returns : goal.returns

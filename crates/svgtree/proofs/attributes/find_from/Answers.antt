@@ -2,8 +2,7 @@
 use borrow.Author.Rules.{rules}
 use native.Mathlib.Omega.{arith}
 use mathlib.Core.Path.{◌≡◌, sym, ◌∙◌}
-use Rattle.svgtree.proofs.Lookup.{lookup_from, lookup_none, lookup_hit, lookup_miss}
-use Rattle.svgtree.proofs.Places.{Walked}
+use Rattle.svgtree.proofs.Lookup.{lookup_none, lookup_hit, lookup_miss}
 use Rattle.svgtree.proofs.attributes.find_from.Goals as goal
 
 pub returns-then-head-id : goal.returns-then-head-id

@@ -1,7 +1,5 @@
-use borrow.Author.Rules.{rules}
-use native.Mathlib.Omega.{arith}
-use mathlib.Core.Path.{◌≡◌, sym, ◌∙◌}
-use Rattle.svgtree.proofs.Lookup.{lookup_from, lookup_none, lookup_hit, lookup_miss}
+use mathlib.Core.Path.{◌≡◌}
+use Rattle.svgtree.proofs.Lookup.{lookup_from}
 use Rattle.svgtree.proofs.Places.{Walked}
 use Rattle.svgtree.proofs.attributes.find_from.Given as goal
 

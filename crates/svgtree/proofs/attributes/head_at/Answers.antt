@@ -2,7 +2,6 @@
 use native.Mathlib.Omega.{arith}
 use mathlib.Core.Path.{refl}
 use Rattle.bits.specs.Bytes.{le16}
-use borrow.Author.Rules.{rules}
 use Rattle.svgtree.proofs.attributes.head_at.Goals as goal
 
 pub returns-then-at-s : goal.returns-then-at-s

@@ -3,7 +3,6 @@ use mathlib.Core.Path.{◌∙◌, sym}
 use Rattle.svgtree.specs.Parse.{header_of}
 use Rattle.num.specs.Means.{single_of}
 use borrow.Author.Tests.{eq-eqb, ne_eqb}
-use borrow.Author.Rules.{rules}
 use Rattle.svgtree.proofs.header.bbox.Goals as goal
 
 pub returns-then-byte-eq1 : goal.returns-then-byte-eq1

@@ -1,7 +1,6 @@
 -- The header's dpi. Assumes nothing.
 use Rattle.svgtree.specs.Parse.{header_of}
 use Rattle.num.specs.Means.{single_of}
-use borrow.Author.Rules.{rules}
 use Rattle.svgtree.proofs.header.dpi.Goals as goal
 
 pub returns : goal.returns

@@ -1,6 +1,5 @@
 -- The header's fourth length. Assumes nothing.
 use Rattle.svgtree.specs.Parse.{header_of}
-use borrow.Author.Rules.{rules}
 use Rattle.svgtree.proofs.header.filter_height.Goals as goal
 
 pub returns : goal.returns

@@ -3,7 +3,6 @@ use mathlib.Core.Path.{◌∙◌, sym}
 use Rattle.svgtree.specs.Parse.{header_length}
 use Rattle.svgtree.specs.Readers.{length_in}
 use borrow.Author.Tests.{eq-eqb, ne_eqb}
-use borrow.Author.Rules.{rules}
 use Rattle.svgtree.proofs.header.header_length.Goals as goal
 
 pub returns-then-byte : goal.returns-then-byte

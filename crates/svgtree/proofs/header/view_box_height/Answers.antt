@@ -1,7 +1,6 @@
 -- The header's height of the view box. Assumes nothing.
 use Rattle.svgtree.specs.Parse.{header_of}
 use Rattle.num.specs.Means.{single_of}
-use borrow.Author.Rules.{rules}
 use Rattle.svgtree.proofs.header.view_box_height.Goals as goal
 
 pub returns : goal.returns

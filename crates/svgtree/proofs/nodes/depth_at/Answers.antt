@@ -1,6 +1,5 @@
 -- The node's first byte. Assumes nothing.
 use Rattle.svgtree.specs.Parse.{node_from}
-use borrow.Author.Rules.{rules}
 use Rattle.svgtree.proofs.nodes.depth_at.Goals as goal
 
 pub returns : goal.returns

@@ -1,7 +1,6 @@
 -- The node's font size. Assumes nothing.
 use Rattle.svgtree.specs.Parse.{node_from}
 use Rattle.num.specs.Means.{single_of}
-use borrow.Author.Rules.{rules}
 use Rattle.svgtree.proofs.nodes.font_size_at.Goals as goal
 
 pub returns : goal.returns

@@ -1,5 +1,4 @@
 -- The pair's first number, cut to two bytes. Assumes nothing.
-use borrow.Author.Rules.{rules}
 use Rattle.svgtree.proofs.nodes.offset_at.Goals as goal
 
 pub returns : goal.returns

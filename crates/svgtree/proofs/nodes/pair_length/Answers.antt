@@ -1,5 +1,4 @@
 -- The second number of the pair. Assumes nothing.
-use borrow.Author.Rules.{rules}
 use Rattle.svgtree.proofs.nodes.pair_length.Goals as goal
 
 pub returns : goal.returns

@@ -1,5 +1,4 @@
 -- The first number of the pair. Assumes nothing.
-use borrow.Author.Rules.{rules}
 use Rattle.svgtree.proofs.nodes.pair_offset.Goals as goal
 
 pub returns : goal.returns

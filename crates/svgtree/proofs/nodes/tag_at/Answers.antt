@@ -1,6 +1,5 @@
 -- The node's second byte. Assumes nothing.
 use Rattle.svgtree.specs.Parse.{node_from}
-use borrow.Author.Rules.{rules}
 use Rattle.svgtree.proofs.nodes.tag_at.Goals as goal
 
 pub returns : goal.returns

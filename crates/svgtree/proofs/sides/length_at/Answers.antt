@@ -1,7 +1,6 @@
 -- The value behind the head is a length where its kind is that of lengths. Assumes nothing.
 use mathlib.Core.Path.{sym, ◌∙◌}
 use borrow.Author.Tests.{eq-eqb, ne_eqb}
-use borrow.Author.Rules.{rules}
 use Rattle.svgtree.specs.Readers.{length_in}
 use Rattle.svgtree.specs.Parse.{attribute_at}
 use Rattle.svgtree.proofs.ByKind.{length_no, length_yes}

@@ -5,8 +5,7 @@ use Prim.Native.Nat.{◌<◌}
 use mathlib.Core.Path.{◌≡◌, refl, sym, ◌∙◌}
 use Rattle.names.specs.Ids.{aid_x, aid_y, aid_width, aid_height}
 use Rattle.svgtree.specs.Parse.{next_place}
-use Rattle.svgtree.proofs.Places.{Walked}
-use Rattle.svgtree.proofs.FirstWith.{Found, turn, ended}
+use Rattle.svgtree.proofs.FirstWith.{turn, ended}
 use Rattle.svgtree.proofs.sides.places_from.Goals as goal
 
 pub loop-left-init : goal.loop-left-init

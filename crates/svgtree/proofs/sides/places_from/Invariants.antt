@@ -1,15 +1,11 @@
-use borrow.Author.Rules.{rules}
-use native.Mathlib.Omega.{arith}
 use Prim.Native.Nat.{◌<◌}
-use mathlib.Core.Path.{◌≡◌, refl, sym, ◌∙◌}
 use Rattle.names.specs.Ids.{aid_x, aid_y, aid_width, aid_height}
-use Rattle.svgtree.specs.Parse.{next_place}
 use Rattle.svgtree.proofs.Places.{Walked}
-use Rattle.svgtree.proofs.FirstWith.{Found, turn, ended}
+use Rattle.svgtree.proofs.FirstWith.{Found}
 use Rattle.svgtree.proofs.sides.places_from.Given as goal
 
 abbrev pub invariant-loop-left : goal.invariant-loop-left
-invariant-loop-left l = 
+invariant-loop-left l =
     Walked l.start l.n l.at l.left × (0 < l.at)
     × Found l.s l.start l.n l.at l.left aid_x l.x × Found l.s l.start l.n l.at l.left aid_y l.y
     × Found l.s l.start l.n l.at l.left aid_width l.width × Found l.s l.start l.n l.at l.left aid_height l.height

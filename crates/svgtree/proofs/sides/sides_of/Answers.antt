@@ -2,7 +2,6 @@
 use mathlib.Core.Path.{◌≡◌, ap, ◌∙◌}
 use mathlib.Core.List.{List}
 use Prim.Native.Nat.{ℕ}
-use borrow.Author.Rules.{rules}
 use Rattle.names.specs.Ids.{aid_x, aid_y, aid_width, aid_height}
 use Rattle.svgtree.specs.declared.MaybeLength.{MaybeLength}
 use Rattle.svgtree.specs.Values.{Value, Attribute}

@@ -1,5 +1,4 @@
 -- Each byte of the colour is the byte at its place. Assumes nothing.
-use borrow.Author.Rules.{rules}
 use Rattle.svgtree.proofs.values.color_from.Goals as goal
 
 pub returns : goal.returns

@@ -2,7 +2,6 @@
 use Rattle.svgtree.proofs.ByKind.{color_no, color_yes}
 use Rattle.svgtree.specs.Readers.{color_in}
 use mathlib.Core.Path.{sym}
-use borrow.Author.Rules.{rules}
 use Rattle.svgtree.proofs.values.find_color.Goals as goal
 
 pub returns-then-kind-eq-COLOR : goal.returns-then-kind-eq-COLOR

@@ -2,7 +2,6 @@
 use Rattle.svgtree.proofs.ByKind.{length_no, length_yes}
 use Rattle.svgtree.specs.Readers.{length_in}
 use mathlib.Core.Path.{sym}
-use borrow.Author.Rules.{rules}
 use Rattle.svgtree.proofs.values.find_length.Goals as goal
 
 pub returns-then-kind-eq-LENGTH : goal.returns-then-kind-eq-LENGTH

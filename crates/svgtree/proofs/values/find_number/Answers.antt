@@ -2,7 +2,6 @@
 use Rattle.svgtree.proofs.ByKind.{number_no, number_yes}
 use Rattle.svgtree.specs.Readers.{number_in}
 use mathlib.Core.Path.{sym}
-use borrow.Author.Rules.{rules}
 use Rattle.svgtree.proofs.values.find_number.Goals as goal
 
 pub returns-then-kind-eq-NUMBER : goal.returns-then-kind-eq-NUMBER

@@ -2,7 +2,6 @@
 use mathlib.Core.Path.{sym}
 use Rattle.svgtree.proofs.ByKind.{text_no, text_yes}
 use Rattle.svgtree.specs.Readers.{text_in}
-use borrow.Author.Rules.{rules}
 use Rattle.svgtree.proofs.values.find_text.Goals as goal
 
 pub returns-then-kind-eq-TEXT : goal.returns-then-kind-eq-TEXT

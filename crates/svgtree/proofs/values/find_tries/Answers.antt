@@ -2,7 +2,6 @@
 use mathlib.Core.Path.{sym}
 use Rattle.svgtree.proofs.ByKind.{tries_no, tries_yes}
 use Rattle.svgtree.specs.Readers.{tries_in}
-use borrow.Author.Rules.{rules}
 use Rattle.svgtree.proofs.values.find_tries.Goals as goal
 
 pub returns-then-kind-eq-TRIES : goal.returns-then-kind-eq-TRIES

@@ -1,7 +1,6 @@
 -- The unit is the first byte, and the number the f64 behind it, narrowed. Assumes nothing.
 use Rattle.num.specs.Means.{double_of}
 use Rattle.svgtree.specs.Readers.{length_in}
-use borrow.Author.Rules.{rules}
 use Rattle.svgtree.proofs.values.length_from.Goals as goal
 
 pub returns : goal.returns

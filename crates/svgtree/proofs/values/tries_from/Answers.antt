@@ -1,5 +1,4 @@
 -- Three tries of nine bytes each. Assumes nothing.
-use borrow.Author.Rules.{rules}
 use Rattle.svgtree.proofs.values.tries_from.Goals as goal
 
 pub returns : goal.returns

@@ -2,7 +2,6 @@
 use mathlib.Core.Path.{◌∙◌, sym}
 use Rattle.svgtree.specs.Parse.{try_at}
 use borrow.Author.Tests.{eq-eqb, ne_eqb}
-use borrow.Author.Rules.{rules}
 use Rattle.svgtree.proofs.values.try_at.Goals as goal
 
 pub returns-then-byte-eq1 : goal.returns-then-byte-eq1
