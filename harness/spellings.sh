@@ -3,31 +3,19 @@
 #
 #   harness/spellings.sh -s FOLDER        FOLDER, or the variable USVG_SRC, is usvg 0.49.0's src folder, as for run.sh
 #
-# callgrind counts calls, and an optimized library has few left. So the proved library is compiled once more without optimization: by the same kit, but for a
-# clang that adds -O0. LIBRARY names a library that was compiled so, in place of this one.
+# callgrind counts calls, and an optimized library has few left. So the proved library is built once more by Rattle's own compiler, without optimization.
+# LIBRARY names a library that was built so, in place of this one.
 set -eu
 cd "$(dirname "$0")/.."
 build=target/harness
 mkdir -p $build/calls
 
-# A folder that is the kit, by links, with one program in another's place.
 without_optimization() {
-    real=${RATTLE_HOME:-$(cd "$(dirname "$(readlink -f "$(command -v rt)")")/.." && pwd)}
-    kit=$(pwd)/$build/kit
-    own=on/$(uname -m)
-    rm -rf "$kit"
-    mkdir -p "$kit/$own/toolchain/bin"
-    for f in "$real"/* "$real/$own"/* "$real/$own/toolchain"/* "$real/$own/toolchain/bin"/*; do
-        [ -e "$kit${f#"$real"}" ] || ln -s "$f" "$kit${f#"$real"}"
-    done
-    rm "$kit/$own/toolchain/bin/clang"
-    printf '#!/bin/sh\nexec "%s" "$@" -O0\n' "$real/$own/toolchain/bin/clang" > "$kit/$own/toolchain/bin/clang"
-    chmod +x "$kit/$own/toolchain/bin/clang"
-    if ! RATTLE_HOME=$kit rt staticlib zatongae > $build/staticlib.log 2>&1; then
+    if ! (cd crates/zatongae_c && rt lib --backend rattle --opt-level 0 </dev/null) > $build/staticlib.log 2>&1; then
         cat $build/staticlib.log >&2
         exit 1
     fi
-    mv target/staticlib/libzatongae.a $build/calls/
+    mv crates/zatongae_c/out/libzatongae_c.a $build/calls/libzatongae.a
 }
 
 if [ -n "${LIBRARY:-}" ]; then

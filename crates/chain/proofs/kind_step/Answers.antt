@@ -1,7 +1,6 @@
 -- A kind makes the child count, and every other answer of the element is a step of its own. Assumes nothing.
 use native.Mathlib.Omega.{arith}
 use mathlib.Core.Path.{refl}
-use borrow.Author.Rules.{rules}
 use Rattle.chain.proofs.kind_step.Goals as goal
 
 pub returns-in-Is : goal.returns-in-Is

@@ -1,11 +1,10 @@
 -- Invariant: the chain from the start is the chain from node i, since every node before it was passed over. Assumes nothing.
 use native.Mathlib.Omega.{arith}
 use mathlib.Core.Path.{◌≡◌, sym, ap, ◌∙◌}
-use Prim.Native.Nat.{◌-◌, ◌≤◌, ◌<◌}
+use Prim.Native.Nat.{◌<◌}
 use Rattle.svgtree.specs.Parse.{count_of}
-use Rattle.chain.specs.Means.{step_is, step_end, chain_from}
+use Rattle.chain.specs.Means.{step_is, step_end}
 use Rattle.chain.proofs.Steps.{chain_goes, chain_end}
-use borrow.Author.Rules.{rules}
 use Rattle.chain.proofs.next_child.Goals as goal
 
 pub returns-in-Count : goal.returns-in-Count

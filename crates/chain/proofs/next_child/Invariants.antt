@@ -1,10 +1,7 @@
-use native.Mathlib.Omega.{arith}
-use mathlib.Core.Path.{◌≡◌, sym, ap, ◌∙◌}
-use Prim.Native.Nat.{◌-◌, ◌≤◌, ◌<◌}
+use mathlib.Core.Path.{◌≡◌}
+use Prim.Native.Nat.{◌-◌, ◌≤◌}
 use Rattle.svgtree.specs.Parse.{count_of}
-use Rattle.chain.specs.Means.{step_is, step_end, chain_from}
-use Rattle.chain.proofs.Steps.{chain_goes, chain_end}
-use borrow.Author.Rules.{rules}
+use Rattle.chain.specs.Means.{chain_from}
 use Rattle.chain.proofs.next_child.Given as goal
 
 abbrev pub invariant-loop-i : goal.invariant-loop-i

@@ -4,7 +4,6 @@ use mathlib.Core.Path.{refl, ap, ◌∙◌}
 use Rattle.svgtree.specs.Parse.{node_from}
 use Rattle.elements.specs.Elements.{kind_of}
 use Rattle.chain.specs.Chain.{kind_step}
-use borrow.Author.Rules.{rules}
 use Rattle.chain.proofs.region_step.Goals as goal
 
 pub returns-in-Is : goal.returns-in-Is

@@ -8,7 +8,6 @@ use Rattle.chain.specs.Chain.{region_step}
 use Rattle.subregion.specs.Subregions.{region_of}
 use Rattle.svgtree.specs.Readers.{child_nodes}
 use Rattle.chain.proofs.Steps.{step_depth, step_tagless, step_region}
-use borrow.Author.Rules.{rules}
 use Rattle.chain.proofs.step_of.Goals as goal
 
 pub returns-then-depth-eq1 : goal.returns-then-depth-eq1

@@ -1,12 +1,7 @@
-use mathlib.Core.Path.{◌≡◌, ap, ◌∙◌}
-use native.Mathlib.Omega.{arith}
-use Prim.Native.Nat.{◌-◌, ◌<◌}
+use mathlib.Core.Path.{◌≡◌}
+use Prim.Native.Nat.{◌-◌}
 use Rattle.svgtree.specs.Parse.{count_of}
-use Rattle.chain.specs.Means.{next_is}
-use Rattle.chain.proofs.Steps.{chain_end}
-use Rattle.results.proofs.Tables.{table_first}
-use Rattle.convert.proofs.Collecting.{Collecting, collecting_none, collecting_more, read_here, ends, ends_refused}
-use borrow.Author.Rules.{rules}
+use Rattle.convert.proofs.Collecting.{Collecting}
 use Rattle.convert.proofs.collect_children.Given as goal
 
 abbrev pub invariant-loop-i : goal.invariant-loop-i

@@ -1,13 +1,11 @@
 -- A frame that can place nothing makes no primitive; else the answer is that of the chain which the tables stand for. Assumes nothing.
 use mathlib.Core.Path.{sym, ◌∙◌}
-use borrow.Author.Tests.{not-true, not-false}
 use lib.ListN.{length}
 use Rattle.answer.proofs.Laws.{answers_as, refused_by}
 use Rattle.answer.specs.declared.Refusal.TheVariants.{NoPrimitive}
 use Rattle.svgtree.specs.Parse.{sheet_of}
 use Rattle.convert.specs.Children.{list_of}
 use Rattle.convert.proofs.Claims.{none_placed, by_chain, stopped_at}
-use borrow.Author.Rules.{rules}
 use Rattle.convert.proofs.convert_children.Goals as goal
 
 pub returns-then-not-is_placeable : goal.returns-then-not-is_placeable

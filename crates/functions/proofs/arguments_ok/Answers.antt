@@ -1,7 +1,6 @@
 -- By cases on the code. Assumes nothing.
 use borrow.Author.Tests.{le-leb, lt-leb, eq-eqb, ne_eqb}
 use Rattle.functions.specs.Refusals.{arguments_ok}
-use borrow.Author.Rules.{rules}
 use Rattle.functions.proofs.arguments_ok.Goals as goal
 
 pub returns-then-code-le7 : goal.returns-then-code-le7

@@ -1,5 +1,4 @@
 -- Both fields are the deviation. Assumes nothing.
-use borrow.Author.Rules.{rules}
 use Rattle.functions.proofs.convert_blur_function.Goals as goal
 
 pub returns : goal.returns

@@ -1,5 +1,4 @@
 -- Each field is as its call ensures. Assumes nothing.
-use borrow.Author.Rules.{rules}
 use Rattle.functions.proofs.convert_drop_shadow_function.Goals as goal
 
 pub returns : goal.returns

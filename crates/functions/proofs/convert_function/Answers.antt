@@ -1,7 +1,6 @@
 -- A refusal leaves the output; else there is room, the kind is written at the start, and its numbers are in their ranges. Assumes nothing.
 use mathlib.Core.Path.{sym, ◌∙◌}
 use Rattle.functions.proofs.Ends.{check_refused, no_room, given_call}
-use borrow.Author.Rules.{rules}
 use Rattle.functions.proofs.convert_function.Goals as goal
 
 pub returns-in-Refused : goal.returns-in-Refused

@@ -1,8 +1,6 @@
 -- Each return is a case of `function_refusal`, with those before it ruled out. Assumes nothing.
 use mathlib.Core.Path.{sym, ◌∙◌}
-use borrow.Author.Tests.{not-true, not-false}
 use Rattle.functions.specs.Refusals.{function_refusal}
-use borrow.Author.Rules.{rules}
 use Rattle.functions.proofs.first_refusal.Goals as goal
 
 pub returns-then-not-layout_ok : goal.returns-then-not-layout_ok

@@ -2,9 +2,7 @@
 use Prim.Native.Nat.{◌<◌}
 use native.Mathlib.Omega.{arith}
 use mathlib.Core.Path.{sym, ◌∙◌}
-use borrow.Author.Tests.{not-true, not-false}
 use Rattle.functions.proofs.Codes.{numbers_amount, numbers_blur, numbers_shadow}
-use borrow.Author.Rules.{rules}
 use Rattle.functions.proofs.function_numbers_ok.Goals as goal
 
 pub returns-then-code-le7 : goal.returns-then-code-le7

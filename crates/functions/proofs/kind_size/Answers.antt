@@ -3,7 +3,6 @@ use mathlib.Core.Path.{sym, ◌∙◌}
 use Rattle.functions.specs.Records.{of_amount, function_by}
 use Rattle.functions.proofs.Codes.{past}
 use Rattle.functions.proofs.Lengths.{size_by_lem, size_shadow}
-use borrow.Author.Rules.{rules}
 use Rattle.functions.proofs.kind_size.Goals as goal
 
 pub returns-in-0 : goal.returns-in-0

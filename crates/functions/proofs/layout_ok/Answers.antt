@@ -1,7 +1,6 @@
 -- Each return is a rule of `function_layout_ok`, with those before it kept. Assumes nothing.
 use borrow.Author.Tests.{le-leb, lt-leb, eq-eqb, ne_eqb}
 use Rattle.functions.specs.Refusals.{function_layout_ok}
-use borrow.Author.Rules.{rules}
 use Rattle.functions.proofs.layout_ok.Goals as goal
 
 pub returns-then-code-gt9 : goal.returns-then-code-gt9

@@ -1,8 +1,6 @@
 -- Each return is a rule of `function_numbers_ok`, with those before it kept. Assumes nothing.
 use mathlib.Core.Path.{sym, ◌∙◌}
-use borrow.Author.Tests.{not-true, not-false}
 use Rattle.functions.specs.Refusals.{function_numbers_ok}
-use borrow.Author.Rules.{rules}
 use Rattle.functions.proofs.numbers_ok.Goals as goal
 
 pub returns-then-not-is_view_box_length_at : goal.returns-then-not-is_view_box_length_at

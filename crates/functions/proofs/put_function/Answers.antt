@@ -7,7 +7,6 @@ use Rattle.functions.specs.Records.{record_argument, grayscale, sepia, saturate,
 use Rattle.functions.proofs.Codes.{by_shadow, past}
 use Rattle.functions.proofs.Lengths.{size_by_lem, size_shadow}
 use Rattle.functions.proofs.Written.{written}
-use borrow.Author.Rules.{rules}
 use Rattle.functions.proofs.put_function.Goals as goal
 
 pub put_matrix-requires : goal.put_matrix-requires

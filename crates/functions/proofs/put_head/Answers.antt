@@ -1,7 +1,6 @@
 -- Two bytes in a row: the place, and SourceGraphic's. Assumes nothing.
 use Rattle.bits.proofs.Patches.{◌then◌}
 use Rattle.tree.specs.Input.{input_bytes}
-use borrow.Author.Rules.{rules}
 use Rattle.functions.proofs.put_head.Goals as goal
 
 pub returns : goal.returns

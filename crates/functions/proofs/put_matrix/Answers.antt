@@ -3,7 +3,6 @@ use native.Mathlib.Omega.{arith}
 use Rattle.bits.proofs.Patches.{◌then◌, ◌counted◌}
 use Rattle.tree.specs.List.{kind_bytes}
 use Rattle.tree.specs.Fields.{color_matrix_kind_bytes}
-use borrow.Author.Rules.{rules}
 use Rattle.functions.proofs.put_matrix.Goals as goal
 
 pub returns : goal.returns

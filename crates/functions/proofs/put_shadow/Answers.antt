@@ -1,7 +1,6 @@
 -- The head, then the fields. Assumes nothing.
 use Rattle.bits.proofs.Patches.{◌then◌}
 use Rattle.tree.specs.List.{kind_bytes}
-use borrow.Author.Rules.{rules}
 use Rattle.functions.proofs.put_shadow.Goals as goal
 
 pub returns : goal.returns

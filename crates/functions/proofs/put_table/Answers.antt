@@ -2,7 +2,6 @@
 use native.Mathlib.Omega.{arith}
 use Rattle.bits.proofs.Patches.{◌then◌, ◌counted◌}
 use Rattle.tree.specs.Fields.{transfer_function_bytes}
-use borrow.Author.Rules.{rules}
 use Rattle.functions.proofs.put_table.Goals as goal
 
 pub returns : goal.returns

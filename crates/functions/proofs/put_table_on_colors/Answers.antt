@@ -2,7 +2,6 @@
 use Rattle.bits.proofs.Patches.{◌then◌}
 use Rattle.tree.specs.List.{kind_bytes}
 use Rattle.tree.specs.Fields.{transfer_function_bytes, component_transfer_bytes}
-use borrow.Author.Rules.{rules}
 use Rattle.functions.proofs.put_table_on_colors.Goals as goal
 
 pub returns : goal.returns

@@ -1,7 +1,6 @@
 -- By cases on the flag. Assumes nothing.
 use borrow.Author.Tests.{eq-eqb, ne_eqb}
 use Rattle.functions.specs.Records.{flagged_color}
-use borrow.Author.Rules.{rules}
 use Rattle.functions.proofs.shadow_color.Goals as goal
 
 pub returns-then-byte-eq1 : goal.returns-then-byte-eq1

@@ -1,8 +1,7 @@
 -- Each return is a rule of `shadow_ok`, with those before it kept. Assumes nothing.
 use mathlib.Core.Path.{sym, ◌∙◌}
-use borrow.Author.Tests.{le-leb, lt-leb, not-true, not-false}
+use borrow.Author.Tests.{le-leb, lt-leb}
 use Rattle.functions.specs.Refusals.{shadow_ok}
-use borrow.Author.Rules.{rules}
 use Rattle.functions.proofs.shadow_ok.Goals as goal
 
 pub returns-then-not-marked_ok : goal.returns-then-not-marked_ok

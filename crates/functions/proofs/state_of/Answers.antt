@@ -1,6 +1,5 @@
 -- The two numbers are those of the record's head. Assumes nothing.
 use Rattle.num.specs.Means.{single_of}
-use borrow.Author.Rules.{rules}
 use Rattle.functions.proofs.state_of.Goals as goal
 
 pub returns : goal.returns

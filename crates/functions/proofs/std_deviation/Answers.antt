@@ -1,7 +1,6 @@
 -- What the two calls ensure, one after the other. Assumes nothing.
 use mathlib.Core.Path.{ap, ◌∙◌}
 use Rattle.function_amounts.specs.Amounts.{positive_or_zero}
-use borrow.Author.Rules.{rules}
 use Rattle.functions.proofs.std_deviation.Goals as goal
 
 pub returns : goal.returns

@@ -2,7 +2,6 @@
 use Rattle.num.specs.Means.{single_of}
 use Rattle.svgtree.specs.Readers.{length_in}
 use Rattle.functions.specs.Functions.{user_length}
-use borrow.Author.Rules.{rules}
 use Rattle.functions.proofs.user_length.Goals as goal
 
 pub returns : goal.returns

@@ -4,7 +4,6 @@ use Rattle.chain.specs.Means.{step_is, step_end}
 use Rattle.chain.specs.declared.Step.{Step}
 use Rattle.list_records.specs.Tables.{child_in}
 use native.Mathlib.Omega.{arith}
-use borrow.Author.Rules.{rules}
 use Rattle.list_records.proofs.child_of.Goals as goal
 
 pub returns-in-Count : goal.returns-in-Count

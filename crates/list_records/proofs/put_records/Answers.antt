@@ -3,9 +3,7 @@ use borrow.Author.Rules.{rules}
 use Rattle.list_records.proofs.Laws.{record_next, records_step, records_none, same_record}
 use native.Mathlib.Omega.{arith}
 use mathlib.Core.Path.{◌≡◌}
-use Prim.Native.Nat.{◌-◌, ◌≤◌}
-use lib.ListN.{length, get_or}
-use Rattle.bits.specs.Patch.{Put}
+use lib.ListN.{get_or}
 use Rattle.bits.proofs.Patches.{put_none}
 use Rattle.list_primitives.proofs.Growing.{room, put_more}
 use Rattle.results.proofs.Tables.{table_first}

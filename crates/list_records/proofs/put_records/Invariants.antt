@@ -1,13 +1,7 @@
-use borrow.Author.Rules.{rules}
-use Rattle.list_records.proofs.Laws.{record_next, records_step, records_none, same_record}
-use native.Mathlib.Omega.{arith}
 use mathlib.Core.Path.{◌≡◌}
 use Prim.Native.Nat.{◌-◌, ◌≤◌}
-use lib.ListN.{length, get_or}
+use lib.ListN.{length}
 use Rattle.bits.specs.Patch.{Put}
-use Rattle.bits.proofs.Patches.{put_none}
-use Rattle.list_primitives.proofs.Growing.{room, put_more}
-use Rattle.results.proofs.Tables.{table_first}
 use Rattle.list_records.specs.Tables.{records_up_to}
 use Rattle.list_records.proofs.put_records.Given as goal
 

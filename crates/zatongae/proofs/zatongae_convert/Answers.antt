@@ -3,7 +3,6 @@
 use mathlib.Core.Path.{sym, ◌∙◌}
 use Rattle.sheet_accepted.proofs.Accepted.{few_nodes}
 use Rattle.zatongae.proofs.Calls.{check_refused, region_refused, converted}
-use borrow.Author.Rules.{rules}
 use Rattle.zatongae.proofs.zatongae_convert.Goals as goal
 
 pub returns-in-Refused : goal.returns-in-Refused
