@@ -3,7 +3,7 @@
 made names. spellings.sh runs it.
 
 A number is spelled where digits_of is called. made_size measures a made name that goes into the list and put_made writes it; is_taken is called for each
-candidate, and has_name for each input that is looked up, once to measure its record and once to write it. Exits 1 if a candidate is spelled more than once, if a name
+candidate, and `Names::has` for each input that is looked up, once to measure its record and once to write it. Exits 1 if a candidate is spelled more than once, if a name
 is measured more often than it is written, or if anything else spells a number. FILE is where callgrind writes.
 """
 import collections
@@ -44,7 +44,7 @@ def main(harness, sheets, out):
         searched = spelled.pop("is_taken", 0)
         candidates = called("is_taken")
         others = sum(spelled.values())
-        print("|", " | ".join(map(str, [sheet, candidates, called("has_name") // 2, *written, searched, others])), "|")
+        print("|", " | ".join(map(str, [sheet, candidates, called("has") // 2, *written, searched, others])), "|")
         if not sum(written):
             sys.exit("no call of digits_of was seen: the names of the library's functions are not what is looked for")
         bad |= searched > candidates or written[0] != written[1] or others > 0

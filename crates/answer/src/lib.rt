@@ -3,28 +3,30 @@
 
 ghost use Rattle.std.specs.Prelude.{◌≡◌};
 ghost use Rattle.answer.specs.Refusals.{refusal_number};
+ghost use Rattle.answer.specs.Outcomes.{answer_of};
 
-// Why nothing is given. `refusal_number` of specs/ gives the table's number of each.
-#[derive(Clone, Copy)]
+// Why nothing is given, with the table's number of each.
+#[derive(Clone, Copy, PartialEq, Eq)]
 pub enum Refusal {
-    TooLarge,
-    Malformed,
-    BadNumber,
-    Image,
-    NoRegion,
-    Unrepresentable,
-    BadFrequency,
-    NoPrimitive,
-    ShortOutput,
-    OutsideGrammar,
-    OutsideLimits,
+    TooLarge = 1,
+    Malformed = 2,
+    BadNumber = 3,
+    Image = 4,
+    NoRegion = 5,
+    Unrepresentable = 6,
+    BadFrequency = 7,
+    NoPrimitive = 8,
+    ShortOutput = 9,
+    OutsideGrammar = 10,
+    OutsideLimits = 11,
 }
 
-// Whether a sheet, or a function record, passes the tests of its bytes.
-#[derive(Clone, Copy)]
-pub enum Checked {
-    Passed,
-    Refused(Refusal),
+impl From<Refusal> for u32 {
+    ghost from_gives = { λ refusal number. number ≡ refusal_number refusal };
+
+    fn from(refusal: Refusal) -> u32 {
+        refusal as u32
+    }
 }
 
 // 0 and the length of what was written, or a refusal's number and 0.
@@ -35,35 +37,17 @@ pub struct Answer {
     pub length: usize,
 }
 
-pub fn refusal_number(refusal: Refusal) -> u32
-    ensures { result ≡ refusal_number refusal }
-{
-    match refusal {
-        Refusal::TooLarge => 1,
-        Refusal::Malformed => 2,
-        Refusal::BadNumber => 3,
-        Refusal::Image => 4,
-        Refusal::NoRegion => 5,
-        Refusal::Unrepresentable => 6,
-        Refusal::BadFrequency => 7,
-        Refusal::NoPrimitive => 8,
-        Refusal::ShortOutput => 9,
-        Refusal::OutsideGrammar => 10,
-        Refusal::OutsideLimits => 11,
-    }
-}
+// What a call made: the length of what it wrote, or why it wrote nothing.
+impl From<Result<usize, Refusal>> for Answer {
+    ghost from_gives = { λ made answer. answer ≡ answer_of made };
 
-pub fn refuse(refusal: Refusal) -> Answer
-    ensures { (result.number ≡ refusal_number refusal) × (result.length ≡ 0) }
-{
-    Answer {
-        number: refusal_number(refusal),
-        length: 0,
+    fn from(made: Result<usize, Refusal>) -> Answer {
+        match made {
+            Ok(length) => Answer { number: 0, length },
+            Err(refusal) => Answer {
+                number: u32::from(refusal),
+                length: 0,
+            },
+        }
     }
-}
-
-pub fn give(length: usize) -> Answer
-    ensures { (result.number ≡ 0) × (result.length ≡ length) }
-{
-    Answer { number: 0, length }
 }

@@ -1,4 +1,5 @@
 -- Laws on the chain: a node goes by its depth, tag and region, only its element refuses it, and the chain goes node by node. Assumes nothing.
+use Rattle.std.specs.Prelude.{None, Option, Some}
 use mathlib.Core.Path.{◌≡◌, refl, ap, ◌∙◌}
 use mathlib.Core.Bool.{Bool, true, false, cond}
 use mathlib.Core.List.{List, [], ◌∷◌}
@@ -8,8 +9,6 @@ use lib.Dec.{eqb}
 use borrow.Author.Tests.{ne_eqb}
 use Rattle.answer.specs.declared.Refusal.{Refusal}
 use Rattle.geom.specs.declared.Rect.{Rect}
-use Rattle.geom.specs.declared.MaybeRect.{MaybeRect}
-use Rattle.geom.specs.declared.MaybeRect.TheVariants as rect
 use Rattle.svgtree.specs.Values.{Node}
 use Rattle.svgtree.specs.Readers.{child_nodes}
 use Rattle.svgtree.specs.Parse.{count_of, node_at, nodes_from}
@@ -46,9 +45,9 @@ module _ (frame : Frame) (n : Node) (why : Refusal) where
   by_kind r no_primitive e = let z : ◌≡◌ {A = ℕ} 0 1 = cc in absurd (zero_one z)
   by_kind r (element.refused w) e = cc
 
-  by_region : (children : List Node) (m : MaybeRect) → region_step frame n children m ≡ refused why → kind_of frame n children ≡ element.refused why
-  by_region children (rect.Is r) e = by_kind r (kind_of frame n children) e
-  by_region children rect.No e = let z : ◌≡◌ {A = ℕ} 0 1 = cc in absurd (zero_one z)
+  by_region : (children : List Node) (m : Option Rect) → region_step frame n children m ≡ refused why → kind_of frame n children ≡ element.refused why
+  by_region children (Some r) e = by_kind r (kind_of frame n children) e
+  by_region children None e = let z : ◌≡◌ {A = ℕ} 0 1 = cc in absurd (zero_one z)
 
   pub refused_by_kind : (rest : List Node) → step_of frame n rest ≡ refused why → kind_of frame n (child_nodes rest) ≡ element.refused why
   unfolding step_of

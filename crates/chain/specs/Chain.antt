@@ -1,11 +1,9 @@
 -- The children that count: a child counts if a primitive is made of its tag and neither it nor an earlier child ended the chain. The names of
 -- results are not looked at. Definitions only.
-use Rattle.std.specs.Prelude.{cond, List, [], ◌∷◌, eqb}
+use Rattle.std.specs.Prelude.{cond, List, [], ◌∷◌, eqb, None, Option, Some}
 use Rattle.answer.specs.declared.Refusal.{Refusal}
 use Rattle.names.specs.Ids.{aid_result}
 use Rattle.geom.specs.declared.Rect.{Rect}
-use Rattle.geom.specs.declared.MaybeRect.{MaybeRect}
-use Rattle.geom.specs.declared.MaybeRect.TheVariants as rect
 use Rattle.svgtree.specs.Values.{Node}
 use Rattle.svgtree.specs.Readers.{text_of, child_nodes}
 use Rattle.child.specs.Child.{Child}
@@ -30,9 +28,9 @@ kind_step n r (element.refused why) = refused why
 
 -- the region is tried before the kind. The document: a subregion that is no rectangle disables its primitive alone (not certain). The crate: the chain ends
 -- before that child, whose tag may be an unsupported one, and the children before it stay. That is no refusal, whatever the units are
-abbrev pub region_step : Frame → Node → List Node → MaybeRect → Step
-region_step frame n children (rect.Is r) = kind_step n r (kind_of frame n children)
-region_step frame n children rect.No = end
+abbrev pub region_step : Frame → Node → List Node → Option Rect → Step
+region_step frame n children (Some r) = kind_step n r (kind_of frame n children)
+region_step frame n children None = end
 
 -- a node and the nodes after it; a node of depth 1 belongs to the child before it, and one without a tag, which the crate does not have below a filter, is
 -- passed over before all else

@@ -1,5 +1,5 @@
 -- A child that counts, as a value: what the sheet says of one primitive, before it is named. Definitions only.
-use Rattle.std.proofs.Math.Option.{Option}
+use Rattle.std.specs.Prelude.{Option}
 use Rattle.geom.specs.declared.Rect.{Rect}
 use Rattle.tree.specs.Input.{Name}
 use Rattle.tree.specs.Kinds.{Kind}

@@ -1,6 +1,5 @@
 -- What the code's child and kind, whose texts are places in the sheet, stand for. Definitions only.
-use Rattle.std.specs.Prelude.{ℕ, ◌+◌, List, map}
-use Rattle.std.proofs.Math.Option.{Option}
+use Rattle.std.specs.Prelude.{ℕ, ◌+◌, List, map, Option}
 use Rattle.bits.specs.Texts.{maybe_text_is}
 use Rattle.svgtree.specs.Parse.{nodes_from}
 use Rattle.tree.specs.Input.{Name}

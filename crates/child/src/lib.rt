@@ -2,7 +2,7 @@
 // worked out later, from the children that count.
 #![tactic(auto)]
 
-use bits::MaybeText;
+use bits::Text;
 use geom::Rect;
 use tree::{BlendMode, ColorInterpolation, ColorMatrixKind, CompositeOperator};
 
@@ -10,58 +10,58 @@ use tree::{BlendMode, ColorInterpolation, ColorMatrixKind, CompositeOperator};
 
 #[derive(Clone, Copy)]
 pub struct Blend {
-    pub input1: MaybeText,
-    pub input2: MaybeText,
+    pub input1: Option<Text>,
+    pub input2: Option<Text>,
     pub mode: BlendMode,
 }
 
 #[derive(Clone, Copy)]
 pub struct ColorMatrix {
-    pub input: MaybeText,
+    pub input: Option<Text>,
     pub kind: ColorMatrixKind,
 }
 
 #[derive(Clone, Copy)]
 pub struct ComponentTransfer {
-    pub input: MaybeText,
+    pub input: Option<Text>,
     pub fields: tree::ComponentTransfer,
 }
 
 #[derive(Clone, Copy)]
 pub struct Composite {
-    pub input1: MaybeText,
-    pub input2: MaybeText,
+    pub input1: Option<Text>,
+    pub input2: Option<Text>,
     pub operator: CompositeOperator,
 }
 
 #[derive(Clone, Copy)]
 pub struct ConvolveMatrix {
-    pub input: MaybeText,
+    pub input: Option<Text>,
     pub fields: tree::ConvolveMatrix,
 }
 
 #[derive(Clone, Copy)]
 pub struct DiffuseLighting {
-    pub input: MaybeText,
+    pub input: Option<Text>,
     pub fields: tree::DiffuseLighting,
 }
 
 #[derive(Clone, Copy)]
 pub struct DisplacementMap {
-    pub input1: MaybeText,
-    pub input2: MaybeText,
+    pub input1: Option<Text>,
+    pub input2: Option<Text>,
     pub fields: tree::DisplacementMap,
 }
 
 #[derive(Clone, Copy)]
 pub struct DropShadow {
-    pub input: MaybeText,
+    pub input: Option<Text>,
     pub fields: tree::DropShadow,
 }
 
 #[derive(Clone, Copy)]
 pub struct GaussianBlur {
-    pub input: MaybeText,
+    pub input: Option<Text>,
     pub fields: tree::GaussianBlur,
 }
 
@@ -74,25 +74,25 @@ pub struct Merge {
 
 #[derive(Clone, Copy)]
 pub struct Morphology {
-    pub input: MaybeText,
+    pub input: Option<Text>,
     pub fields: tree::Morphology,
 }
 
 #[derive(Clone, Copy)]
 pub struct Offset {
-    pub input: MaybeText,
+    pub input: Option<Text>,
     pub fields: tree::Offset,
 }
 
 #[derive(Clone, Copy)]
 pub struct SpecularLighting {
-    pub input: MaybeText,
+    pub input: Option<Text>,
     pub fields: tree::SpecularLighting,
 }
 
 #[derive(Clone, Copy)]
 pub struct Tile {
-    pub input: MaybeText,
+    pub input: Option<Text>,
 }
 
 // A sheet makes no Image.
@@ -122,5 +122,5 @@ pub struct Child {
     pub rect: Rect,
     pub kind: Kind,
     pub color_interpolation: ColorInterpolation,
-    pub result: MaybeText,
+    pub result: Option<Text>,
 }

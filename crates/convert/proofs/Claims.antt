@@ -10,7 +10,6 @@ use Rattle.answer.specs.declared.Answer.{Answer}
 use Rattle.answer.specs.declared.Refusal.TheVariants.{NoPrimitive, ShortOutput}
 use Rattle.answer.proofs.Laws.{never_zero}
 use Rattle.svgtree.specs.Values.{Node}
-use Rattle.svgtree.specs.Parse.{sheet_of}
 use Rattle.sheet_accepted.specs.Nodes.{AcceptedNodes}
 use Rattle.region.specs.declared.Frame.{Frame}
 use Rattle.region.proofs.Regions.{SoundFrame}
@@ -25,15 +24,6 @@ use Rattle.list_within.proofs.ListsFit.{within_none, within}
 use Rattle.list_within.proofs.Rendering.{renders}
 use Rattle.convert.specs.Children.{placeable, collected, list_of, fit, of_chain, children_outcome}
 use Rattle.convert.specs.Claim.{Claim}
-use Rattle.convert.specs.Plans.{stopped, Collects}
-use Rattle.list_records.specs.Tables.{children_is}
-use Rattle.convert.specs.declared.Collected.{Collected}
-use Rattle.convert.specs.declared.Stop.{Stop}
-
--- the chain of tables, by the reason to stop
-pub stopped_at : {frame : Frame} {s nodes names sizes : List ℕ} {r : Collected} {y : Stop} → Collects frame s nodes names sizes r → r.stop ≡ y
-    → chain.chain frame (sheet_of s).nodes ≡ stopped y (children_is frame s nodes r.results.count)
-stopped_at {frame} {s} {nodes} {r} c q = c.exact ∙ ap (λ (z : Stop). stopped z (children_is frame s nodes r.results.count)) q
 
 kept_same : (cs ds : List Child) → kept cs ≡ kept ds → cs ≡ ds
 kept_same cs ds e = cc

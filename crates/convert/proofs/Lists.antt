@@ -1,6 +1,6 @@
 -- The list of the children in the tables: its length and its bytes by the tables' parts, and the answers "no primitive", "output shorter than the list" and
 -- the list. Assumes nothing.
-use mathlib.Core.Path.{◌≡◌, refl, sym, ap, ◌∙◌}
+use mathlib.Core.Path.{◌≡◌, refl, sym, ap, subst, ◌∙◌}
 use mathlib.Core.List.{List, [], ◌∷◌, ◌++◌, map}
 use Prim.Native.Nat.{ℕ, min, ◌+◌, ◌*◌, ◌≤◌, ◌<◌}
 use native.Mathlib.Omega.{arith}
@@ -13,8 +13,10 @@ use Rattle.answer.specs.declared.Answer.{Answer}
 use Rattle.answer.specs.declared.Refusal.TheVariants.{NoPrimitive, ShortOutput}
 use Rattle.answer.proofs.Laws.{refused_by, given_by, in_room_lem, out_of_room}
 use Rattle.bits.specs.Bytes.{bytes16}
-use Rattle.bits.specs.Patch.{Put, patch}
-use Rattle.bits.proofs.Patches.{◌then◌, patch_parts}
+use Rattle.bits.specs.Writer.{Writes}
+use Rattle.bits.specs.declared.writer.Writer.{Writer}
+use Rattle.bits.proofs.Patches.{patch_parts}
+use Rattle.bits.proofs.Writing.{◌then◌, put_writes}
 use Rattle.tree.specs.List.{primitive_size, pairs_bytes, records_bytes, list_bytes}
 use Rattle.tree.specs.Sizes.{total}
 use Rattle.tree.proofs.Lengths.{length_list}
@@ -51,7 +53,7 @@ module _ {frame : Frame} {s nodes names table : List ℕ} {f : FilterResults} {s
   abbrev children : List Child
   children = children_is frame s nodes f.count
 
-  fits : f.count ≤ length nodes
+  pub fits : f.count ≤ length nodes
   fits = omega (arith, p.long, p.named.state.table.few)
 
   children_count : length children ≡ f.count
@@ -89,15 +91,16 @@ module _ {frame : Frame} {s nodes names table : List ℕ} {f : FilterResults} {s
   total_sizes = omega (arith, list_length, length_list (primitives children), counted, ap total sizes)
 
   -- three writers in a row write the list at the output's start, and leave the rest
-  pub written : {o o₁ o₂ o₃ : List ℕ} {a b e : ℕ} → length (list_of children) ≤ length o
-      → Put o 0 2 (bytes16 f.count) o₁ a
-      → Put o₁ a (8 * f.count) (pairs_bytes (2 + 8 * f.count) (take f.count table)) o₂ b
-      → Put o₂ b (length (records_up_to frame s nodes names f.count)) (records_up_to frame s nodes names f.count) o₃ e
-      → o₃ ≡ list_of children ++ drop (length (list_of children)) o
-  written {o} h p q r =
-      let whole = p then q then r in
-      whole.put ∙ ap (patch o 0) (sym list_parts) ∙ patch_parts o 0 (list_of children) (omega (arith, h))
-      ∙ ap (λ (k : ℕ). list_of children ++ drop k o) (zero-add (length (list_of children)))
+  pub written : {o : List ℕ} {w w₁ w₂ w₃ : Writer} → w.at ≡ 0 → w.out.now ≡ o → length (list_of children) ≤ length o
+      → Writes w 2 (bytes16 f.count) w₁
+      → Writes w₁ (8 * f.count) (pairs_bytes (2 + 8 * f.count) (take f.count table)) w₂
+      → Writes w₂ (length (records_up_to frame s nodes names f.count)) (records_up_to frame s nodes names f.count) w₃
+      → w₃.out.now ≡ list_of children ++ drop (length (list_of children)) o
+  written {o} {w} {w₁} {w₂} {w₃} front same h p q r =
+      let long : length (list_of children) ≡ 2 + 8 * f.count + length (records_up_to frame s nodes names f.count) = omega (arith, list_length, measured.total) in
+      let whole = subst (λ (xs : List ℕ). Writes w (2 + 8 * f.count + length (records_up_to frame s nodes names f.count)) xs w₃) (sym list_parts) (p then q then r) in
+      let put = put_writes w w₃ _ _ whole (omega (arith, front, ap length same, h, long)) in
+      put.put ∙ rw (front, same) (patch_parts o 0 (list_of children) (omega (arith, h)) ∙ ap (λ (k : ℕ). list_of children ++ drop k o) (zero-add (length (list_of children))))
 
   -- no room, and the list
 

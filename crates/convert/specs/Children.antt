@@ -1,13 +1,12 @@
 -- What comes of a list of nodes in a frame. The two need not be of one sheet. Definitions only.
-use Rattle.std.specs.Prelude.{ℕ, Bool, true, false, cond, List, [], ◌∷◌}
+use Rattle.geom.specs.declared.Rect.{Rect}
+use Rattle.std.specs.Prelude.{ℕ, Bool, true, false, cond, List, [], ◌∷◌, None, Option, Some}
 use Rattle.answer.specs.Outcomes.{Outcome, refused, in_room}
 use Rattle.answer.specs.declared.Refusal.TheVariants.{NoPrimitive}
-use Rattle.geom.specs.declared.MaybeRect.{MaybeRect}
-use Rattle.geom.specs.declared.MaybeRect.TheVariants as rect
 use Rattle.tree.specs.List.{list_bytes}
 use Rattle.svgtree.specs.Values.{Node}
-use Rattle.units.specs.declared.Units.{Units}
-use Rattle.units.specs.declared.Units.TheVariants as units
+use Rattle.svgtree.specs.declared.Units.{Units}
+use Rattle.svgtree.specs.declared.Units.TheVariants as units
 use Rattle.region.specs.declared.Frame.{Frame}
 use Rattle.child.specs.Child.{Child}
 use Rattle.chain.specs.Chain as chain
@@ -15,10 +14,10 @@ use Rattle.chain.specs.Chain.{Chain, kept}
 use Rattle.list_primitives.specs.Primitives.{primitives}
 
 -- whether a primitive can be placed at all: box units need a box
-abbrev pub placeable : Units → MaybeRect → Bool
+abbrev pub placeable : Units → Option Rect → Bool
 placeable units.UserSpaceOnUse box = true
-placeable units.ObjectBoundingBox (rect.Is b) = true
-placeable units.ObjectBoundingBox rect.No = false
+placeable units.ObjectBoundingBox (Some b) = true
+placeable units.ObjectBoundingBox None = false
 
 -- the children that count, or the first refusal in child order: "Box units for primitives without a box make none"
 unfoldable pub collected : Frame → List Node → Chain

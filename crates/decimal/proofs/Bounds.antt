@@ -1,12 +1,12 @@
 -- An item that passes, that is, one within the limits: its exact value is below 10 ^ 37, and its f32 is finite (`word_bounded`). It has at most 15 digits
 -- and a power of at most 22, so it is below 10 ^ 15 * 10 ^ 22, which is below 2 ^ 123, and neither rounding makes it twice as large. Assumes nothing.
+use Rattle.std.specs.Prelude.{None, Option, Some}
 use Prim.Native.Nat.{ℕ, ◌+◌, ◌-◌, ◌*◌, ◌^◌, ◌≤◌, ◌<◌}
 use native.Mathlib.Nat.{le_trans, le_of_eq, lt_of_lt_of_le, mul-le-mul_left, mul-lt-mul_of_pos_right, mul-one, pow-le-pow_right}
 use native.Mathlib.Omega.{arith}
 use mathlib.Core.Path.{◌≡◌, refl, sym, ap, ◌∙◌, subst}
 use mathlib.Core.Bool.{Bool, true, false, ◌&&◌, cond}
 use mathlib.Core.List.{List}
-use mathlib.Core.Option.{Option, none, some}
 use lib.ListN.{length}
 use lib.Dec.{T, leb}
 use lib.Ieee.{binary64, round}
@@ -62,20 +62,20 @@ pub record Bounded (i : TypedItem) : Type 0 where
   pub below : whole i.digits * 10 ^ (power_up i - power_down i) < 10 ^ 37 * 10 ^ (power_down i - power_up i)
   pub finite_value : T (finite (item_value i))
 
-some_bounded : (n : ℕ) (o : Option TypedItem) (i : TypedItem) → Good n o → o ≡ some i → in_limits i ≡ true → Bounded i
+some_bounded : (n : ℕ) (o : Option TypedItem) (i : TypedItem) → Good n o → o ≡ Some i → in_limits i ≡ true → Bounded i
 unfolding Good
 some_bounded n o i g f e =
     let h = subst (Good n) f g in
     record { below = item_below i h.0 e; finite_value = value_finite i h.0 e }
 
-pub word_bounded : (w : List ℕ) (i : TypedItem) → item_of w ≡ some i → in_limits i ≡ true → Bounded i
+pub word_bounded : (w : List ℕ) (i : TypedItem) → item_of w ≡ Some i → in_limits i ≡ true → Bounded i
 word_bounded w i f e = some_bounded (length w) (item_of w) i (good_number w) f e
 
 -- the number that is read of any word is finite: where there is no item within the limits it is +0
 read_finite : (n : ℕ) (o : Option TypedItem) → Good n o → T (finite (item_value_in o))
 unfolding Good item_value_in
-read_finite n none g = zero_finite
-read_finite n (some i) g = go (in_limits i) refl
+read_finite n None g = zero_finite
+read_finite n (Some i) g = go (in_limits i) refl
   where
     go : (b : Bool) → in_limits i ≡ b → T (finite (cond b (item_value i) plus_zero))
     go true e = value_finite i g.0 e

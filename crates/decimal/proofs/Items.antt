@@ -1,10 +1,10 @@
 -- Every item that is read has digits for digits, and no more of them stand after its point than the word has bytes. Assumes nothing.
+use Rattle.std.specs.Prelude.{None, Option, Some}
 use Prim.Native.Nat.{ℕ, suc, ◌≤◌, zero-le, suc-le-suc}
 use native.Mathlib.Nat.{le_refl, le-suc, le_trans}
 use mathlib.Core.Path.{◌≡◌, refl, sym, subst}
 use mathlib.Core.Bool.{Bool, true, false, ◌||◌, cond}
 use mathlib.Core.List.{List, [], ◌∷◌, ◌++◌}
-use mathlib.Core.Option.{Option, none, some}
 use lib.ListN.{length}
 use lib.Dec.{T, eqb}
 use lib.Ieee.Fits.{and_i, and_l, and_r}
@@ -15,8 +15,8 @@ use Rattle.decimal.specs.Means.{all_digits}
 
 -- an item of a word of n bytes, if there is one
 unfoldable pub Good : ℕ → Option TypedItem → Type 0
-Good n none = Unit {0}
-Good n (some i) = T (all_digits i.digits) × (i.decimals ≤ n)
+Good n None = Unit {0}
+Good n (Some i) = T (all_digits i.digits) × (i.decimals ≤ n)
 
 digits_all : (t : List ℕ) → T (all_digits (leading_digits t))
 unfolding leading_digits all_digits
@@ -71,7 +71,7 @@ module _ (n : ℕ) (m : Bool) (ds : List ℕ) (k : ℕ) (p : T (all_digits ds)) 
   good_scaled [] = (p, q)
   good_scaled (b ∷ t) = go (is_e b)
     where
-      go : (q : Bool) → Good n (cond q (power m ds k (negative t) (leading_digits (unsigned t)) (after_digits (unsigned t))) none)
+      go : (q : Bool) → Good n (cond q (power m ds k (negative t) (leading_digits (unsigned t)) (after_digits (unsigned t))) None)
       go true = good_power (negative t) (leading_digits (unsigned t)) (after_digits (unsigned t))
       go false = tt
 

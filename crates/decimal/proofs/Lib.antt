@@ -4,6 +4,7 @@ pub mod Running
 pub mod Scales
 pub mod Parts
 pub mod Tens
+pub mod Powers
 pub mod Held
 pub mod Counts
 pub mod Items

@@ -1,11 +1,11 @@
 -- The parts of an item's word, one after the other: what the code reads of each, and what the grammar says of it. Assumes nothing.
+use Rattle.std.specs.Prelude.{None}
 use Prim.Native.Nat.{ℕ, zero, suc, ◌+◌, ◌-◌, ◌*◌, ◌<◌, min}
 use native.Mathlib.Nat.{suc-ne-zero, lt_irrefl}
 use native.Mathlib.Omega.{arith}
 use mathlib.Core.Path.{◌≡◌, refl, sym, ap, ◌∙◌}
 use mathlib.Core.Bool.{Bool, true, false}
 use mathlib.Core.List.{List, [], ◌∷◌, ◌++◌}
-use mathlib.Core.Option.{none}
 use lib.ListN.{get_or, length}
 use lib.Dec.{eqb}
 use Rattle.bits.specs.Bytes.{bytes_from}
@@ -13,7 +13,6 @@ use Rattle.bits.proofs.Runs.{bytes_from_step, bytes_from_none}
 use Rattle.decimal.specs.Grammar.{negative, leading_digits, after_digits, scaled, plain, pointed, signed, item_of}
 use Rattle.decimal.specs.Limits.{whole, whole_from}
 use Rattle.decimal.specs.Means.{limit, held_in, point, DigitsAt, SignAt}
-use Rattle.decimal.specs.declared.MaybeDecimal.TheVariants as maybe
 use Rattle.decimal.proofs.Running.{held_on}
 
 -- digits after digits
@@ -27,7 +26,7 @@ whole_on v ds es e =
     ap (λ (k : ℕ). min (whole_from k es) limit) e ∙ sym (held_on (whole ds) es) ∙ ap (λ (k : ℕ). min k limit) (sym (whole_append 0 ds es))
 
 module _ (m : Bool) (ds : List ℕ) where
-  pointed_none : (fs rest : List ℕ) → length fs ≡ 0 → pointed m ds fs rest ≡ none
+  pointed_none : (fs rest : List ℕ) → length fs ≡ 0 → pointed m ds fs rest ≡ None
   unfolding pointed
   pointed_none [] rest e = refl
   pointed_none (f ∷ fs) rest e = absurd (suc-ne-zero (length fs) e)
@@ -42,7 +41,7 @@ module _ (m : Bool) (ds : List ℕ) where
   signed_plain [] e = refl
   signed_plain (b ∷ t) e = rw e
 
-plain_none : (m : Bool) (ds rest : List ℕ) → length ds ≡ 0 → plain m ds rest ≡ none
+plain_none : (m : Bool) (ds rest : List ℕ) → length ds ≡ 0 → plain m ds rest ≡ None
 unfolding plain
 plain_none m [] rest e = refl
 plain_none m (d ∷ ds) rest e = absurd (suc-ne-zero (length ds) e)
@@ -63,7 +62,7 @@ module _ (s : List ℕ) (at left : ℕ) where
 
   module _ (m : Bool) (ds : List ℕ) where
     module _ (v n x : ℕ) (d : DigitsAt s at left v n x) where
-      pub decimals_none : n ≡ 0 → maybe.No ≡ held_in (pointed m ds (leading_digits (bytes_from s at left)) (after_digits (bytes_from s at left)))
+      pub decimals_none : n ≡ 0 → None ≡ held_in (pointed m ds (leading_digits (bytes_from s at left)) (after_digits (bytes_from s at left)))
       decimals_none z = rw (pointed_none m ds (leading_digits (bytes_from s at left)) (after_digits (bytes_from s at left)) (d.many ∙ z))
 
       pub decimals_value : v ≡ min (whole ds) limit → x ≡ min (whole (ds ++ leading_digits (bytes_from s at left))) limit
@@ -76,7 +75,7 @@ module _ (s : List ℕ) (at left : ℕ) where
           ∙ ap (λ (k : ℕ). scaled m (ds ++ leading_digits (bytes_from s at left)) k (after_digits (bytes_from s at left))) (sym d.many)
           ∙ sym (pointed_some m ds (leading_digits (bytes_from s at left)) (after_digits (bytes_from s at left)) p)
 
-    pub after_none : point (bytes_from s at left) ≡ false → length ds ≡ 0 → maybe.No ≡ held_in (signed m ds (bytes_from s at left))
+    pub after_none : point (bytes_from s at left) ≡ false → length ds ≡ 0 → None ≡ held_in (signed m ds (bytes_from s at left))
     after_none e z = rw (signed_plain m ds (bytes_from s at left) e, plain_none m ds (bytes_from s at left) z)
 
     pub after_plain : point (bytes_from s at left) ≡ false → 0 < length ds → scaled m ds 0 (bytes_from s at left) ≡ signed m ds (bytes_from s at left)

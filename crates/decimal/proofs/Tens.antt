@@ -1,14 +1,14 @@
 -- A whole number times or through a power of ten, in f64: both are exact, so the one operation rounds the true value. Assumes nothing.
-use Prim.Native.Nat.{ℕ, zero, suc, ◌-◌, ◌*◌, ◌^◌, ◌≤◌, ◌<◌}
+use Prim.Native.Nat.{ℕ, zero, suc, ◌*◌, ◌^◌, ◌≤◌, ◌<◌}
 use native.Mathlib.Nat.{mul-one, mul_assoc, mul_comm, mul_right_comm, mul-pos, pow-suc, one-le-pow}
 use native.Mathlib.Omega.{arith}
 use mathlib.Core.Path.{◌≡◌, refl, sym, ap, ◌∙◌}
 use mathlib.Core.Bool.{Bool, true, false, not, cond}
 use lib.IntN.{pos}
-use lib.Dec.{T, eqb, le→leb}
+use lib.Dec.{eqb}
 use lib.Pow.{pow_pos}
 use borrow.Author.Tests.{ne_eqb}
-use lib.Ieee.{Float, nan, inf, fin, binary64, prec, unlike, up, down, round, neg, mul, div, of_int, in_float}
+use lib.Ieee.{Float, nan, inf, fin, binary64, unlike, up, down, round, neg, mul, div, of_int}
 use lib.Ieee.Fits.{down_pos}
 use lib.Ieee.Exact.{HasValue}
 use lib.Ieee.Back.{round_whole}
@@ -34,13 +34,6 @@ plus_sign true = refl
 plus_sign false = refl
 
 -- n as a float
-pub whole_in : (n : ℕ) → n < 1000000000000000 → T (in_float binary64 (pos n))
-unfolding in_float
-whole_in n h = le→leb n (2 ^ prec binary64) (below n h)
-  where
-    below : (n : ℕ) → n < 1000000000000000 → n ≤ 9007199254740992
-    below n h = omega arith
-
 pub whole_plus : (n : ℕ) → n < 1000000000000000 → HasValue (of_int binary64 (pos n)) false n 1
 unfolding of_int
 whole_plus n h = round_whole binary64 false n (below n h)
@@ -81,14 +74,3 @@ module _ (s : Bool) (n p : ℕ) where
     where
       not_zero : (a : ℕ) → 0 < a → a ≡ 0 → ⊥
       not_zero a h e = omega arith
-
--- the two ways, by which of up and down is larger
-pub shifted_up : (s : Bool) (n u d : ℕ) → d ≤ u → round binary64 s (n * 10 ^ (u - d)) 1 ≡ round binary64 s (n * 10 ^ (u - d)) (10 ^ (d - u))
-shifted_up s n u d h =
-    let z : d - u ≡ 0 = omega arith in
-    ap (λ (k : ℕ). round binary64 s (n * 10 ^ (u - d)) (10 ^ k)) (sym z)
-
-pub shifted_down : (s : Bool) (n u d : ℕ) → u < d → round binary64 s n (10 ^ (d - u)) ≡ round binary64 s (n * 10 ^ (u - d)) (10 ^ (d - u))
-shifted_down s n u d h =
-    let z : u - d ≡ 0 = omega arith in
-    ap (λ (k : ℕ). round binary64 s k (10 ^ (d - u))) (sym (ap (λ (k : ℕ). n * 10 ^ k) z ∙ mul-one n))

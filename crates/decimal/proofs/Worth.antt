@@ -1,30 +1,33 @@
 -- What the code keeps of an item, its digits and its exponent held at 10 ^ 15, says whether the item is within the limits and what it is worth: a number
 -- that is held is outside the limits, and so is the item. Assumes nothing.
-use Prim.Native.Nat.{ℕ, ◌+◌, ◌≤◌, ◌<◌, suc, min}
+use Rattle.std.specs.Prelude.{Err, None, Ok, Option, Some}
+use Prim.Native.Nat.{ℕ, ◌+◌, ◌-◌, ◌*◌, ◌^◌, ◌≤◌, ◌<◌, suc, min}
 use native.Mathlib.Nat.{le_trans, le_of_lt, not-le_of_lt}
 use native.Mathlib.Omega.{arith}
 use mathlib.Core.Path.{◌≡◌, refl, sym, ap, ◌∙◌}
 use mathlib.Core.Logic.{◌⊎◌, inl, inr}
 use mathlib.Core.Bool.{Bool, true, false, ◌&&◌, cond}
-use mathlib.Core.List.{List}
-use mathlib.Core.Option.{Option, none, some}
 use lib.Dec.{T, leb, ltb}
 use borrow.Author.Tests.{le-leb, lt-leb}
+use lib.IntN.{pos, ◌-ℤ◌}
+use lib.Ieee.{binary64, round}
 use lib.Ieee.Bits.{is_true}
 use Rattle.num.specs.Constants.{plus_zero}
 use Rattle.num.specs.Narrowed.{narrowed, or_zero}
 use Rattle.num.proofs.Laws.{by_le}
 use Rattle.num.proofs.Finite.{or_zero_is}
+use mathlib.Core.List.{List}
+use Rattle.bits.specs.Bytes.{bytes_from}
 use Rattle.decimal.specs.Grammar.{TypedItem, item_of}
-use Rattle.decimal.specs.Limits.{whole, digit_count, in_limits}
+use Rattle.decimal.specs.Limits.{whole, digit_count, power_up, power_down, in_limits}
 use Rattle.decimal.specs.Value.{item_value, item_value_in}
-use Rattle.decimal.specs.Means.{limit, held_item, held_in, item_check, all_digits, power_up_held, power_down_held, in_limits_held, double_held, value_held}
+use Rattle.decimal.specs.Means.{limit, held_item, held_in, item_check, all_digits, raised, lowered, signed_exponent, in_limits_held, double_held, value_held}
 use Rattle.decimal.specs.declared.Decimal.{Decimal}
-use Rattle.decimal.specs.declared.MaybeDecimal.TheVariants as maybe
-use Rattle.decimal.specs.declared.TextCheck.TheVariants as check
 use Rattle.decimal.proofs.Bounds.{limited, value_rounded, value_finite}
 use Rattle.decimal.proofs.Counts.{count_is}
-use Rattle.decimal.proofs.Items.{Good}
+use Rattle.decimal.proofs.Powers.{power_is}
+use Rattle.decimal.proofs.Items.{Good, good_at}
+use Rattle.decimal.specs.declared.TextFault.TheVariants as fault
 
 -- ---- the limits
 same_le : (a b c d : ℕ) → (a ≤ b → c ≤ d) → (c ≤ d → a ≤ b) → leb a b ≡ leb c d
@@ -40,20 +43,20 @@ digits_held x = same_le (suc (min x limit)) limit (suc x) limit (λ h. omega ari
 
 -- k decimals and the exponent e
 module _ (k e : ℕ) (h : k ≤ 65535) where
-  up_plus : leb (min e limit) (k + 0 + 22) ≡ leb e (k + 0 + 22)
-  up_plus = same_le (min e limit) (k + 0 + 22) e (k + 0 + 22) (λ p. omega arith) (λ p. omega arith)
+  up_plus : leb (min e limit - (k + 0)) 22 ≡ leb e (k + 0 + 22)
+  up_plus = same_le (min e limit - (k + 0)) 22 e (k + 0 + 22) (λ p. omega arith) (λ p. omega arith)
 
-  down_plus : leb (k + 0) (min e limit + 22) ≡ leb (k + 0) (e + 22)
-  down_plus = same_le (k + 0) (min e limit + 22) (k + 0) (e + 22) (λ p. omega arith) (λ p. omega arith)
+  down_plus : leb (k + 0 - min e limit) 22 ≡ leb (k + 0) (e + 22)
+  down_plus = same_le (k + 0 - min e limit) 22 (k + 0) (e + 22) (λ p. omega arith) (λ p. omega arith)
 
-  up_minus : leb 0 (k + min e limit + 22) ≡ leb 0 (k + e + 22)
-  up_minus = same_le 0 (k + min e limit + 22) 0 (k + e + 22) (λ p. omega arith) (λ p. omega arith)
+  up_minus : leb (0 - (k + min e limit)) 22 ≡ leb 0 (k + e + 22)
+  up_minus = same_le (0 - (k + min e limit)) 22 0 (k + e + 22) (λ p. omega arith) (λ p. omega arith)
 
-  down_minus : leb (k + min e limit) 22 ≡ leb (k + e) 22
-  down_minus = same_le (k + min e limit) 22 (k + e) 22 (λ p. omega arith) (λ p. omega arith)
+  down_minus : leb (k + min e limit - 0) 22 ≡ leb (k + e) (0 + 22)
+  down_minus = same_le (k + min e limit - 0) 22 (k + e) (0 + 22) (λ p. omega arith) (λ p. omega arith)
 
   power_held : (l : Bool)
-      → (leb (cond l 0 (min e limit)) (k + cond l (min e limit) 0 + 22) && leb (k + cond l (min e limit) 0) (cond l 0 (min e limit) + 22))
+      → (leb (cond l 0 (min e limit) - (k + cond l (min e limit) 0)) 22 && leb (k + cond l (min e limit) 0 - cond l 0 (min e limit)) 22)
       ≡ (leb (cond l 0 e) (k + cond l e 0 + 22) && leb (k + cond l e 0) (cond l 0 e + 22))
   power_held true = rw (up_minus, down_minus)
   power_held false = rw (up_plus, down_plus)
@@ -61,9 +64,18 @@ module _ (k e : ℕ) (h : k ≤ 65535) where
 limits_held : (i : TypedItem) → T (all_digits i.digits) → i.decimals ≤ 65535 → in_limits_held (held_item i) ≡ in_limits i
 unfolding in_limits_held in_limits
 limits_held i t h =
-    ap (λ (b : Bool). b && (leb (power_up_held (held_item i)) (power_down_held (held_item i) + 22) && leb (power_down_held (held_item i)) (power_up_held (held_item i) + 22)))
-    (digits_held (whole i.digits) ∙ sym (count_is i.digits t))
-    ∙ ap (λ (b : Bool). leb (digit_count i.digits) 15 && b) (power_held i.decimals (whole i.exponent) h i.exponent_minus)
+    let z = (held_item i).power in
+    let p = power_is i.exponent_minus (min (whole i.exponent) limit) i.decimals in
+    ap (λ (b : Bool). b && (leb (raised z) 22 && leb (lowered z) 22)) (digits_held (whole i.digits) ∙ sym (count_is i.digits t))
+    ∙ ap (λ (b : Bool). leb (digit_count i.digits) 15 && b)
+    (ap (λ (n : ℕ). leb n 22 && leb (lowered z) 22) p.0 ∙ ap (λ (n : ℕ). leb (power_up_min i - power_down_min i) 22 && leb n 22) p.1
+    ∙ power_held i.decimals (whole i.exponent) h i.exponent_minus)
+  where
+    power_up_min : TypedItem → ℕ
+    power_up_min i = cond i.exponent_minus 0 (min (whole i.exponent) limit)
+
+    power_down_min : TypedItem → ℕ
+    power_down_min i = i.decimals + cond i.exponent_minus (min (whole i.exponent) limit) 0
 
 -- ---- the number
 not_held : (x : ℕ) → x ≤ limit → min x limit ≡ x
@@ -77,9 +89,12 @@ small_exponent k e false h p q = omega arith
 same_double : (i : TypedItem) → min (whole i.digits) limit ≡ whole i.digits → min (whole i.exponent) limit ≡ whole i.exponent
     → narrowed (double_held (held_item i)) ≡ item_value i
 unfolding double_held
-same_double i e f = rw (value_rounded i, e, f)
+same_double i e f =
+    let p = power_is i.exponent_minus (whole i.exponent) i.decimals in
+    rw (value_rounded i, e, f) (ap (λ (n : ℕ). narrowed (round binary64 i.minus (whole i.digits * 10 ^ n) (10 ^ lowered (signed_exponent i.exponent_minus (whole i.exponent) -ℤ pos i.decimals)))) p.0
+    ∙ ap (λ (n : ℕ). narrowed (round binary64 i.minus (whole i.digits * 10 ^ (power_up i - power_down i)) (10 ^ n))) p.1)
 
-value_held_lem : (i : TypedItem) → T (all_digits i.digits) → i.decimals ≤ 65535 → value_held (held_item i) ≡ item_value_in (some i)
+value_held_lem : (i : TypedItem) → T (all_digits i.digits) → i.decimals ≤ 65535 → value_held (held_item i) ≡ item_value_in (Some i)
 unfolding value_held item_value_in
 value_held_lem i t h =
     ap (λ (b : Bool). cond b (or_zero (narrowed (double_held (held_item i)))) plus_zero) (limits_held i t h)
@@ -94,36 +109,44 @@ value_held_lem i t h =
         ∙ or_zero_is (item_value i) (is_true _ (value_finite i t e))
 
 -- ---- a word, by what the code made of it
-pub word_none : (o : Option TypedItem) → maybe.No ≡ held_in o → check.OutsideGrammar ≡ item_check o
+pub word_none : (o : Option TypedItem) → None ≡ held_in o → (Err fault.OutsideGrammar) ≡ item_check o
 unfolding item_check
-word_none none e = refl
-word_none (some i) e = cc
+word_none None e = refl
+word_none (Some i) e = cc
 
-pub value_none : (o : Option TypedItem) → maybe.No ≡ held_in o → plus_zero ≡ item_value_in o
+pub value_none : (o : Option TypedItem) → None ≡ held_in o → plus_zero ≡ item_value_in o
 unfolding item_value_in
-value_none none e = refl
-value_none (some i) e = cc
+value_none None e = refl
+value_none (Some i) e = cc
 
 module _ (n : ℕ) (h : n ≤ 65535) where
-  pub word_some : (o : Option TypedItem) (d : Decimal) → Good n o → maybe.Is d ≡ held_in o → cond (in_limits_held d) check.Passed check.OutsideLimits ≡ item_check o
+  word_some : (o : Option TypedItem) (d : Decimal) → Good n o → Some d ≡ held_in o → cond (in_limits_held d) (Ok tt) (Err fault.OutsideLimits) ≡ item_check o
   unfolding Good item_check
-  word_some none d g e = cc
-  word_some (some i) d g e =
+  word_some None d g e = cc
+  word_some (Some i) d g e =
       let f : d ≡ held_item i = cc in
-      ap (λ (b : Bool). cond b check.Passed check.OutsideLimits) (ap in_limits_held f ∙ limits_held i g.0 (le_trans g.1 h))
+      ap (λ (b : Bool). cond b (Ok tt) (Err fault.OutsideLimits)) (ap in_limits_held f ∙ limits_held i g.0 (le_trans g.1 h))
 
-  pub value_some : (o : Option TypedItem) (d : Decimal) → Good n o → maybe.Is d ≡ held_in o → value_held d ≡ item_value_in o
+  value_some : (o : Option TypedItem) (d : Decimal) → Good n o → Some d ≡ held_in o → value_held d ≡ item_value_in o
   unfolding Good
-  value_some none d g e = cc
-  value_some (some i) d g e =
+  value_some None d g e = cc
+  value_some (Some i) d g e =
       let f : d ≡ held_item i = cc in
       ap value_held f ∙ value_held_lem i g.0 (le_trans g.1 h)
 
-exponent_held : (o : Option TypedItem) (d : Decimal) → maybe.Is d ≡ held_in o → d.exponent ≤ limit
-exponent_held none d e = let z : ◌≡◌ {A = ℕ} 0 1 = cc in omega arith
-exponent_held (some i) d e =
-    let f : d ≡ held_item i = cc in
-    rw f (omega arith)
+-- the same of a word that stands at a place
+module _ (s : List ℕ) (at left : ℕ) (short : left < 65536) (d : Decimal) (e : Some d ≡ held_in (item_of (bytes_from s at left))) where
+  fits : left ≤ 65535
+  fits = omega arith
 
-pub exponent_at : (w : List ℕ) (d : Decimal) → maybe.Is d ≡ held_in (item_of w) → d.exponent ≤ limit
-exponent_at w d e = exponent_held (item_of w) d e
+  word_at : cond (in_limits_held d) (Ok tt) (Err fault.OutsideLimits) ≡ item_check (item_of (bytes_from s at left))
+  word_at = word_some left fits _ d (good_at s at left) e
+
+  pub word_within : true ≡ in_limits_held d → Ok tt ≡ item_check (item_of (bytes_from s at left))
+  word_within w = ap (λ (b : Bool). cond b (Ok tt) (Err fault.OutsideLimits)) w ∙ word_at
+
+  pub word_outside : false ≡ in_limits_held d → Err fault.OutsideLimits ≡ item_check (item_of (bytes_from s at left))
+  word_outside w = ap (λ (b : Bool). cond b (Ok tt) (Err fault.OutsideLimits)) w ∙ word_at
+
+  pub value_at : value_held d ≡ item_value_in (item_of (bytes_from s at left))
+  value_at = value_some left fits _ d (good_at s at left) e

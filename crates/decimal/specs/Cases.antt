@@ -1,7 +1,6 @@
 -- Typed numbers, found by computing: what a run of bytes says, whether it is within the limits, and the f32 that it is worth.
-use Rattle.std.specs.Prelude.{ℕ, ◌≡◌, refl, cond, List, [], ◌∷◌, map}
+use Rattle.std.specs.Prelude.{ℕ, ◌≡◌, refl, cond, List, [], ◌∷◌, map, None, Option, Some}
 use Prim.Native.String.{String}
-use Rattle.std.proofs.Math.Option.{Option, none, some}
 use Rattle.std.specs.Float.{binary32}
 use Rattle.std.specs.Float.Ieee.{to_bits, round}
 use Rattle.bits.specs.Words.{word}
@@ -17,8 +16,8 @@ pub data WordReading : Type 0 where
   worth : ℕ → WordReading
 
 abbrev pub word_reading : Option TypedItem → WordReading
-word_reading none = no_item
-word_reading (some i) = cond (in_limits i) (worth (to_bits binary32 (item_value i))) over_limits
+word_reading None = no_item
+word_reading (Some i) = cond (in_limits i) (worth (to_bits binary32 (item_value i))) over_limits
 
 -- a word, and what comes of it
 abbrev pub item_cases : List (String × WordReading)

@@ -3,8 +3,7 @@
 --     number  ::= integer ([Ee] integer)? | [+-]? [0-9]* "." [0-9]+ ([Ee] integer)?
 -- What a run of bytes says is kept as it stands there; its limits and its value are said elsewhere. That these functions read the production, no more and
 -- no less, is a theorem (`item_complete`, `item_correct` of `number_grammar`). Definitions only.
-use Rattle.std.specs.Prelude.{ℕ, Bool, false, ◌&&◌, ◌||◌, cond, List, [], ◌∷◌, ◌++◌, length, leb, eqb}
-use Rattle.std.proofs.Math.Option.{Option, none, some}
+use Rattle.std.specs.Prelude.{ℕ, Bool, false, ◌&&◌, ◌||◌, cond, List, [], ◌∷◌, ◌++◌, length, leb, eqb, None, Option, Some}
 
 -- ± digits × 10 ^ (± exponent − decimals). Digits are the bytes `0` to `9`, those before the point and those after it; `decimals` is how many stand after
 -- it. A number without an exponent has no digit there
@@ -43,23 +42,23 @@ after_digits (b ∷ t) = cond (is_digit b) (after_digits t) (b ∷ t)
 
 -- the exponent's digits, one at least, and then the end
 unfoldable pub power : Bool → List ℕ → ℕ → Bool → (es rest : List ℕ) → Option TypedItem
-power m ds k l [] rest = none
-power m ds k l (e ∷ es) [] = some (record { minus = m; digits = ds; decimals = k; exponent_minus = l; exponent = e ∷ es })
-power m ds k l (e ∷ es) (b ∷ t) = none
+power m ds k l [] rest = None
+power m ds k l (e ∷ es) [] = Some (record { minus = m; digits = ds; decimals = k; exponent_minus = l; exponent = e ∷ es })
+power m ds k l (e ∷ es) (b ∷ t) = None
 
 -- ([Ee] integer)? and then the end
 unfoldable pub scaled : Bool → List ℕ → ℕ → (rest : List ℕ) → Option TypedItem
-scaled m ds k [] = some (record { minus = m; digits = ds; decimals = k; exponent_minus = false; exponent = [] })
-scaled m ds k (b ∷ t) = cond (is_e b) (power m ds k (negative t) (leading_digits (unsigned t)) (after_digits (unsigned t))) none
+scaled m ds k [] = Some (record { minus = m; digits = ds; decimals = k; exponent_minus = false; exponent = [] })
+scaled m ds k (b ∷ t) = cond (is_e b) (power m ds k (negative t) (leading_digits (unsigned t)) (after_digits (unsigned t))) None
 
 -- with no point: one digit at least
 unfoldable pub plain : Bool → (ds rest : List ℕ) → Option TypedItem
-plain m [] rest = none
+plain m [] rest = None
 plain m (d ∷ ds) rest = scaled m (d ∷ ds) 0 rest
 
 -- after a point: one digit at least
 unfoldable pub pointed : Bool → (ds fs rest : List ℕ) → Option TypedItem
-pointed m ds [] rest = none
+pointed m ds [] rest = None
 pointed m ds (f ∷ fs) rest = scaled m (ds ++ (f ∷ fs)) (length (f ∷ fs)) rest
 
 -- the sign and the first digits are read: a point, which is the byte 46, or none

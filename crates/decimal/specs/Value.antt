@@ -1,6 +1,5 @@
 -- What a typed number is worth: document 02, [2]. Definitions only.
-use Rattle.std.specs.Prelude.{◌-◌, ◌*◌, ◌^◌, cond, Float}
-use Rattle.std.proofs.Math.Option.{Option, none, some}
+use Rattle.std.specs.Prelude.{◌-◌, ◌*◌, ◌^◌, cond, Float, None, Option, Some}
 use Rattle.std.specs.Float.{binary64}
 use Rattle.std.specs.Float.Ieee.{round}
 use Rattle.num.specs.Constants.{plus_zero}
@@ -20,5 +19,5 @@ item_value i = narrowed (nearest_double i)
 -- the number that is read where an item stands, +0 where there is none or it is outside the limits. A sheet with such a text is refused, so no list is
 -- made of that +0 (theorem `read_as_given` of `sheet_accepted`)
 unfoldable pub item_value_in : Option TypedItem → Float
-item_value_in none = plus_zero
-item_value_in (some i) = cond (in_limits i) (item_value i) plus_zero
+item_value_in None = plus_zero
+item_value_in (Some i) = cond (in_limits i) (item_value i) plus_zero

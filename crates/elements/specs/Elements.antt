@@ -1,6 +1,10 @@
 -- What `collect_children` makes of an element, by its tag: its kind, with the inputs as they are read. Definitions only.
-use Rattle.std.specs.Prelude.{ℕ, cond, List, [], ◌∷◌, map, eqb}
-use Rattle.std.proofs.Math.Option.{Option, none, some}
+use Rattle.tree.specs.declared.SpecularLighting.{SpecularLighting as SpecularLightingFields}
+use Rattle.tree.specs.declared.DiffuseLighting.{DiffuseLighting as DiffuseLightingFields}
+use Rattle.tree.specs.declared.Turbulence.{Turbulence as TurbulenceFields}
+use Rattle.tree.specs.declared.DisplacementMap.{DisplacementMap as DisplacementMapFields}
+use Rattle.tree.specs.declared.Morphology.{Morphology as MorphologyFields}
+use Rattle.std.specs.Prelude.{ℕ, cond, List, [], ◌∷◌, map, eqb, Err, None, Ok, Option, Result, Some}
 use Rattle.answer.specs.declared.Refusal.{Refusal}
 use Rattle.names.specs.Ids.{eid_fe_blend, eid_fe_color_matrix, eid_fe_component_transfer, eid_fe_composite, eid_fe_convolve_matrix, eid_fe_diffuse_lighting}
 use Rattle.names.specs.Ids.{eid_fe_displacement_map, eid_fe_drop_shadow, eid_fe_flood, eid_fe_gaussian_blur, eid_fe_merge, eid_fe_morphology, eid_fe_offset}
@@ -27,16 +31,6 @@ use Rattle.fe_kernel.specs.ConvolveMatrix.{convolve_matrix_of}
 use Rattle.fe_morphology.specs.Morphology.{morphology_of}
 use Rattle.fe_displacement_map.specs.DisplacementMap.{displacement_map_of}
 use Rattle.fe_turbulence.specs.Turbulence.{turbulence_of}
-use Rattle.fe_morphology.specs.declared.MaybeMorphology.{MaybeMorphology}
-use Rattle.fe_morphology.specs.declared.MaybeMorphology.TheVariants as morphology
-use Rattle.fe_displacement_map.specs.declared.MaybeDisplacementMap.{MaybeDisplacementMap}
-use Rattle.fe_displacement_map.specs.declared.MaybeDisplacementMap.TheVariants as displacement
-use Rattle.fe_turbulence.specs.declared.MaybeTurbulence.{MaybeTurbulence}
-use Rattle.fe_turbulence.specs.declared.MaybeTurbulence.TheVariants as turbulence
-use Rattle.fe_light.specs.declared.diffuse_lighting.MaybeDiffuseLighting.{MaybeDiffuseLighting}
-use Rattle.fe_light.specs.declared.diffuse_lighting.MaybeDiffuseLighting.TheVariants as diffuse
-use Rattle.fe_light.specs.declared.specular_lighting.MaybeSpecularLighting.{MaybeSpecularLighting}
-use Rattle.fe_light.specs.declared.specular_lighting.MaybeSpecularLighting.TheVariants as specular
 
 -- what an element gives: a kind; nothing, where no primitive is made of its tag; or a refusal
 pub data ElementKind : Type 0 where
@@ -52,29 +46,29 @@ in2_of n = text_of n aid_in2
 abbrev pub flood_made : ElementKind
 flood_made = made (Flood transparent_black)
 
-abbrev pub diffuse_made : Node → MaybeDiffuseLighting → ElementKind
-diffuse_made n (diffuse.Is v) = made (DiffuseLighting (in_of n) v)
-diffuse_made n diffuse.No = flood_made
+abbrev pub diffuse_made : Node → Option DiffuseLightingFields → ElementKind
+diffuse_made n (Some v) = made (DiffuseLighting (in_of n) v)
+diffuse_made n None = flood_made
 
-abbrev pub specular_made : Node → MaybeSpecularLighting → ElementKind
-specular_made n (specular.Is v) = made (SpecularLighting (in_of n) v)
-specular_made n specular.No = flood_made
+abbrev pub specular_made : Node → Option SpecularLightingFields → ElementKind
+specular_made n (Some v) = made (SpecularLighting (in_of n) v)
+specular_made n None = flood_made
 
 abbrev pub convolve_made : Node → Option ConvolveMatrixFields → ElementKind
-convolve_made n (some v) = made (ConvolveMatrix (in_of n) v)
-convolve_made n none = flood_made
+convolve_made n (Some v) = made (ConvolveMatrix (in_of n) v)
+convolve_made n None = flood_made
 
-abbrev pub morphology_made : Node → MaybeMorphology → ElementKind
-morphology_made n (morphology.Is v) = made (Morphology (in_of n) v)
-morphology_made n (morphology.Refused why) = refused why
+abbrev pub morphology_made : Node → Result MorphologyFields Refusal → ElementKind
+morphology_made n (Ok v) = made (Morphology (in_of n) v)
+morphology_made n (Err why) = refused why
 
-abbrev pub displacement_made : Node → MaybeDisplacementMap → ElementKind
-displacement_made n (displacement.Is v) = made (DisplacementMap (in_of n) (in2_of n) v)
-displacement_made n (displacement.Refused why) = refused why
+abbrev pub displacement_made : Node → Result DisplacementMapFields Refusal → ElementKind
+displacement_made n (Ok v) = made (DisplacementMap (in_of n) (in2_of n) v)
+displacement_made n (Err why) = refused why
 
-abbrev pub turbulence_made : MaybeTurbulence → ElementKind
-turbulence_made (turbulence.Is v) = made (Turbulence v)
-turbulence_made (turbulence.Refused why) = refused why
+abbrev pub turbulence_made : Result TurbulenceFields Refusal → ElementKind
+turbulence_made (Ok v) = made (Turbulence v)
+turbulence_made (Err why) = refused why
 
 infixl 6 ◌gives◌
 -- a tag, and what an element with that tag gives

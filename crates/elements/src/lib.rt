@@ -1,8 +1,8 @@
 // What the filter makes of each element: its kind, with the inputs as they are read.
 #![tactic(auto)]
 
-ghost use Rattle.std.specs.Prelude.{map, ◌+◌, ◌<◌};
-ghost use Rattle.svgtree.specs.Parse.{node_from, nodes_from};
+ghost use Rattle.std.specs.Prelude.{◌≡◌, map, ◌+◌};
+ghost use Rattle.svgtree.specs.Nodes.{node_of, nodes_of};
 ghost use Rattle.tree.specs.Kinds as spec;
 ghost use Rattle.child.specs.Child.{in_of};
 ghost use Rattle.fe_blur.specs.GaussianBlur.{gaussian_blur_of};
@@ -36,231 +36,221 @@ use fe_color::blend::convert_blend;
 use fe_color::color_matrix::convert_color_matrix_kind;
 use fe_color::component_transfer::convert_component_transfer;
 use fe_color::composite::convert_composite;
-use fe_displacement_map::{MaybeDisplacementMap, convert_displacement_map};
+use fe_displacement_map::convert_displacement_map;
 use fe_flood::{convert_flood, create_dummy_primitive};
-use fe_kernel::convolve_matrix::{MaybeConvolveMatrix, convert_convolve_matrix};
-use fe_light::diffuse_lighting::{MaybeDiffuseLighting, convert_diffuse_lighting};
-use fe_light::specular_lighting::{MaybeSpecularLighting, convert_specular_lighting};
-use fe_morphology::{MaybeMorphology, convert_morphology};
-use fe_turbulence::{MaybeTurbulence, convert_turbulence};
+use fe_kernel::convolve_matrix::convert_convolve_matrix;
+use fe_light::diffuse_lighting::convert_diffuse_lighting;
+use fe_light::specular_lighting::convert_specular_lighting;
+use fe_morphology::convert_morphology;
+use fe_turbulence::convert_turbulence;
 use geom::Size;
 use names::{aid, eid};
 use region::Frame;
 use subregion::scale;
-use svgtree::{tag, text_of};
+use svgtree::SvgNode;
+use svgtree::run::NodeRun;
 
-// What an element gives.
-#[derive(Clone, Copy)]
-pub enum Made {
-    Is(Kind),
-    Unsupported,
-    Refused(Refusal),
-}
+// What an element gives: a kind, none where no primitive is made of its tag, or a refusal.
+pub type Made = Result<Option<Kind>, Refusal>;
 
 // The kinds, one by one, inputs as they are read.
 
-fn make_blend(s: &[u8], at: u16) -> Made
-    ensures { Makes s.now result (element.made (spec.Blend (in_of (node_from s.now at)) (in2_of (node_from s.now at)) (mode_of (node_from s.now at)))) 0 }
+fn make_blend(node: SvgNode<'_>) -> Made
+    ensures { Makes node.entry.bytes.now result (element.made (spec.Blend (in_of (node_of node.entry)) (in2_of (node_of node.entry)) (mode_of (node_of node.entry)))) 0 }
 {
-    let input1 = text_of(s, at, aid::IN);
-    let input2 = text_of(s, at, aid::IN2);
-    let mode = convert_blend(s, at);
-    Made::Is(Kind::Blend(Blend {
-        input1,
-        input2,
+    let mode = convert_blend(node);
+    Ok(Some(Kind::Blend(Blend {
+        input1: node.attribute(aid::IN),
+        input2: node.attribute(aid::IN2),
         mode,
-    }))
+    })))
 }
 
-fn make_composite(s: &[u8], at: u16) -> Made
-    ensures { Makes s.now result (element.made (spec.Composite (in_of (node_from s.now at)) (in2_of (node_from s.now at)) (composite_operator_of (node_from s.now at)))) 0 }
+fn make_composite(node: SvgNode<'_>) -> Made
+    ensures { Makes node.entry.bytes.now result (element.made (spec.Composite (in_of (node_of node.entry)) (in2_of (node_of node.entry)) (composite_operator_of (node_of node.entry)))) 0 }
 {
-    let input1 = text_of(s, at, aid::IN);
-    let input2 = text_of(s, at, aid::IN2);
-    let operator = convert_composite(s, at);
-    Made::Is(Kind::Composite(Composite {
-        input1,
-        input2,
+    let operator = convert_composite(node);
+    Ok(Some(Kind::Composite(Composite {
+        input1: node.attribute(aid::IN),
+        input2: node.attribute(aid::IN2),
         operator,
-    }))
+    })))
 }
 
-fn make_color_matrix(s: &[u8], at: u16) -> Made
-    ensures { Makes s.now result (element.made (spec.ColorMatrix (in_of (node_from s.now at)) (color_matrix_kind_of (node_from s.now at)))) 0 }
+fn make_color_matrix(node: SvgNode<'_>) -> Made
+    ensures { Makes node.entry.bytes.now result (element.made (spec.ColorMatrix (in_of (node_of node.entry)) (color_matrix_kind_of (node_of node.entry)))) 0 }
 {
-    let input = text_of(s, at, aid::IN);
-    let kind = convert_color_matrix_kind(s, at);
-    Made::Is(Kind::ColorMatrix(ColorMatrix { input, kind }))
+    let kind = convert_color_matrix_kind(node);
+    Ok(Some(Kind::ColorMatrix(ColorMatrix {
+        input: node.attribute(aid::IN),
+        kind,
+    })))
 }
 
-fn make_drop_shadow(s: &[u8], at: u16, scale: Size) -> Made
-    ensures { Makes s.now result (element.made (spec.DropShadow (in_of (node_from s.now at)) (drop_shadow_of (node_from s.now at) scale))) 0 }
+fn make_drop_shadow(node: SvgNode<'_>, scale: Size) -> Made
+    ensures { Makes node.entry.bytes.now result (element.made (spec.DropShadow (in_of (node_of node.entry)) (drop_shadow_of (node_of node.entry) scale))) 0 }
 {
-    let input = text_of(s, at, aid::IN);
-    let fields = convert_drop_shadow(s, at, scale);
-    Made::Is(Kind::DropShadow(DropShadow { input, fields }))
+    let fields = convert_drop_shadow(node, scale);
+    Ok(Some(Kind::DropShadow(DropShadow {
+        input: node.attribute(aid::IN),
+        fields,
+    })))
 }
 
-fn make_gaussian_blur(s: &[u8], at: u16, scale: Size) -> Made
-    ensures { Makes s.now result (element.made (spec.GaussianBlur (in_of (node_from s.now at)) (gaussian_blur_of (node_from s.now at) scale))) 0 }
+fn make_gaussian_blur(node: SvgNode<'_>, scale: Size) -> Made
+    ensures { Makes node.entry.bytes.now result (element.made (spec.GaussianBlur (in_of (node_of node.entry)) (gaussian_blur_of (node_of node.entry) scale))) 0 }
 {
-    let input = text_of(s, at, aid::IN);
-    let fields = convert_gaussian_blur(s, at, scale);
-    Made::Is(Kind::GaussianBlur(GaussianBlur { input, fields }))
+    let fields = convert_gaussian_blur(node, scale);
+    Ok(Some(Kind::GaussianBlur(GaussianBlur {
+        input: node.attribute(aid::IN),
+        fields,
+    })))
 }
 
-fn make_offset(s: &[u8], at: u16, scale: Size) -> Made
-    ensures { Makes s.now result (element.made (spec.Offset (in_of (node_from s.now at)) (offset_fields_of (node_from s.now at) scale))) 0 }
+fn make_offset(node: SvgNode<'_>, scale: Size) -> Made
+    ensures { Makes node.entry.bytes.now result (element.made (spec.Offset (in_of (node_of node.entry)) (offset_fields_of (node_of node.entry) scale))) 0 }
 {
-    let input = text_of(s, at, aid::IN);
-    let fields = convert_offset(s, at, scale);
-    Made::Is(Kind::Offset(Offset { input, fields }))
+    let fields = convert_offset(node, scale);
+    Ok(Some(Kind::Offset(Offset {
+        input: node.attribute(aid::IN),
+        fields,
+    })))
 }
 
-fn make_flood(s: &[u8], at: u16) -> Made
-    ensures { Makes s.now result (element.made (spec.Flood (flood_of (node_from s.now at)))) 0 }
+fn make_flood(node: SvgNode<'_>) -> Made
+    ensures { Makes node.entry.bytes.now result (element.made (spec.Flood (flood_of (node_of node.entry)))) 0 }
 {
-    Made::Is(Kind::Flood(convert_flood(s, at)))
+    Ok(Some(Kind::Flood(convert_flood(node))))
 }
 
-fn make_tile(s: &[u8], at: u16) -> Made
-    ensures { Makes s.now result (element.made (spec.Tile (in_of (node_from s.now at)))) 0 }
+fn make_tile(node: SvgNode<'_>) -> Made
+    ensures { Makes node.entry.bytes.now result (element.made (spec.Tile (in_of (node_of node.entry)))) 0 }
 {
-    let input = text_of(s, at, aid::IN);
-    Made::Is(Kind::Tile(Tile { input }))
+    Ok(Some(Kind::Tile(Tile {
+        input: node.attribute(aid::IN),
+    })))
 }
 
-fn make_component_transfer(s: &[u8], at: u16, i: u16, n: u16) -> Made
-    requires { i + n < 65536 }
-    ensures { Makes s.now result (element.made (spec.ComponentTransfer (in_of (node_from s.now at)) (component_transfer_of (nodes_from s.now (i + 1) n)))) 0 }
+fn make_component_transfer(node: SvgNode<'_>, children: NodeRun<'_>) -> Made
+    requires { node.bytes ≡ children.bytes }
+    ensures { Makes node.entry.bytes.now result (element.made (spec.ComponentTransfer (in_of (node_of node.entry)) (component_transfer_of (nodes_of children.entry)))) 0 }
 {
-    let input = text_of(s, at, aid::IN);
-    let fields = convert_component_transfer(s, i, n);
-    Made::Is(Kind::ComponentTransfer(ComponentTransfer { input, fields }))
+    let fields = convert_component_transfer(children);
+    Ok(Some(Kind::ComponentTransfer(ComponentTransfer {
+        input: node.attribute(aid::IN),
+        fields,
+    })))
 }
 
-fn make_merge(s: &[u8], i: u16, n: u16) -> Made
-    requires { i + 1 + n < 65536 }
-    ensures { Makes s.now result (element.made (spec.Merge (map in_of (nodes_from s.now (i + 1) n)))) (i + 1 + n) }
+fn make_merge(children: NodeRun<'_>) -> Made
+    ensures { Makes children.entry.bytes.now result (element.made (spec.Merge (map in_of (nodes_of children.entry)))) (children.entry.first + children.entry.count) }
 {
-    Made::Is(Kind::Merge(Merge {
-        first: i + 1,
-        count: n,
-    }))
+    Ok(Some(Kind::Merge(Merge {
+        first: children.first,
+        count: children.count,
+    })))
 }
 
-fn dummy(s: &[u8]) -> Made
-    ensures { Makes s.now result element.flood_made 0 }
+fn dummy(bytes: &[u8]) -> Made
+    ensures { Makes bytes.now result element.flood_made 0 }
 {
-    Made::Is(Kind::Flood(create_dummy_primitive()))
+    Ok(Some(Kind::Flood(create_dummy_primitive())))
 }
 
-fn make_convolve_matrix(s: &[u8], at: u16) -> Made
-    ensures { Makes s.now result (convolve_made (node_from s.now at) (convolve_matrix_of (node_from s.now at))) 0 }
+fn make_convolve_matrix(node: SvgNode<'_>) -> Made
+    ensures { Makes node.entry.bytes.now result (convolve_made (node_of node.entry) (convolve_matrix_of (node_of node.entry))) 0 }
 {
-    let found = convert_convolve_matrix(s, at);
-    match found {
-        MaybeConvolveMatrix::Is(fields) => {
-            let input = text_of(s, at, aid::IN);
-            Made::Is(Kind::ConvolveMatrix(ConvolveMatrix { input, fields }))
-        }
-        MaybeConvolveMatrix::No => dummy(s),
-    }
-}
-
-fn make_diffuse_lighting(s: &[u8], at: u16, i: u16, n: u16) -> Made
-    requires { i + n < 65536 }
-    ensures { Makes s.now result (diffuse_made (node_from s.now at) (diffuse_lighting_of (node_from s.now at) (nodes_from s.now (i + 1) n))) 0 }
-{
-    let found = convert_diffuse_lighting(s, at, i, n);
-    match found {
-        MaybeDiffuseLighting::Is(fields) => {
-            let input = text_of(s, at, aid::IN);
-            Made::Is(Kind::DiffuseLighting(DiffuseLighting { input, fields }))
-        }
-        MaybeDiffuseLighting::No => dummy(s),
-    }
-}
-
-fn make_specular_lighting(s: &[u8], at: u16, i: u16, n: u16) -> Made
-    requires { i + n < 65536 }
-    ensures { Makes s.now result (specular_made (node_from s.now at) (specular_lighting_of (node_from s.now at) (nodes_from s.now (i + 1) n))) 0 }
-{
-    let found = convert_specular_lighting(s, at, i, n);
-    match found {
-        MaybeSpecularLighting::Is(fields) => {
-            let input = text_of(s, at, aid::IN);
-            Made::Is(Kind::SpecularLighting(SpecularLighting { input, fields }))
-        }
-        MaybeSpecularLighting::No => dummy(s),
-    }
-}
-
-fn make_morphology(s: &[u8], at: u16, scale: Size) -> Made
-    ensures { Makes s.now result (morphology_made (node_from s.now at) (morphology_of (node_from s.now at) scale)) 0 }
-{
-    let found = convert_morphology(s, at, scale);
-    match found {
-        MaybeMorphology::Is(fields) => {
-            let input = text_of(s, at, aid::IN);
-            Made::Is(Kind::Morphology(Morphology { input, fields }))
-        }
-        MaybeMorphology::Refused(why) => Made::Refused(why),
-    }
-}
-
-fn make_displacement_map(s: &[u8], at: u16, scale: Size) -> Made
-    ensures { Makes s.now result (displacement_made (node_from s.now at) (displacement_map_of (node_from s.now at) scale)) 0 }
-{
-    let found = convert_displacement_map(s, at, scale);
-    match found {
-        MaybeDisplacementMap::Is(fields) => {
-            let input1 = text_of(s, at, aid::IN);
-            let input2 = text_of(s, at, aid::IN2);
-            Made::Is(Kind::DisplacementMap(DisplacementMap {
-                input1,
-                input2,
+    match convert_convolve_matrix(node) {
+        Some(fields) => {
+            Ok(Some(Kind::ConvolveMatrix(ConvolveMatrix {
+                input: node.attribute(aid::IN),
                 fields,
-            }))
+            })))
         }
-        MaybeDisplacementMap::Refused(why) => Made::Refused(why),
+        None => dummy(node.bytes),
     }
 }
 
-fn make_turbulence(s: &[u8], at: u16) -> Made
-    ensures { Makes s.now result (turbulence_made (turbulence_of (node_from s.now at))) 0 }
+fn make_diffuse_lighting(node: SvgNode<'_>, children: NodeRun<'_>) -> Made
+    ensures { Makes node.entry.bytes.now result (diffuse_made (node_of node.entry) (diffuse_lighting_of (node_of node.entry) (nodes_of children.entry))) 0 }
 {
-    let found = convert_turbulence(s, at);
-    match found {
-        MaybeTurbulence::Is(fields) => Made::Is(Kind::Turbulence(fields)),
-        MaybeTurbulence::Refused(why) => Made::Refused(why),
+    match convert_diffuse_lighting(node, children) {
+        Some(fields) => {
+            Ok(Some(Kind::DiffuseLighting(DiffuseLighting {
+                input: node.attribute(aid::IN),
+                fields,
+            })))
+        }
+        None => dummy(node.bytes),
     }
 }
 
-// The element at an offset, node number i, whose n children follow it.
-pub fn kind_of(s: &[u8], at: u16, i: u16, n: u16, frame: Frame) -> Made
-    requires { i + 1 + n < 65536 }
-    ensures { Makes s.now result (kind_of frame (node_from s.now at) (nodes_from s.now (i + 1) n)) (i + 1 + n) }
+fn make_specular_lighting(node: SvgNode<'_>, children: NodeRun<'_>) -> Made
+    ensures { Makes node.entry.bytes.now result (specular_made (node_of node.entry) (specular_lighting_of (node_of node.entry) (nodes_of children.entry))) 0 }
+{
+    match convert_specular_lighting(node, children) {
+        Some(fields) => {
+            Ok(Some(Kind::SpecularLighting(SpecularLighting {
+                input: node.attribute(aid::IN),
+                fields,
+            })))
+        }
+        None => dummy(node.bytes),
+    }
+}
+
+fn make_morphology(node: SvgNode<'_>, scale: Size) -> Made
+    ensures { Makes node.entry.bytes.now result (morphology_made (node_of node.entry) (morphology_of (node_of node.entry) scale)) 0 }
+{
+    let fields = convert_morphology(node, scale)?;
+    Ok(Some(Kind::Morphology(Morphology {
+        input: node.attribute(aid::IN),
+        fields,
+    })))
+}
+
+fn make_displacement_map(node: SvgNode<'_>, scale: Size) -> Made
+    ensures { Makes node.entry.bytes.now result (displacement_made (node_of node.entry) (displacement_map_of (node_of node.entry) scale)) 0 }
+{
+    let fields = convert_displacement_map(node, scale)?;
+    Ok(Some(Kind::DisplacementMap(DisplacementMap {
+        input1: node.attribute(aid::IN),
+        input2: node.attribute(aid::IN2), // the map
+        fields,
+    })))
+}
+
+fn make_turbulence(node: SvgNode<'_>) -> Made
+    ensures { Makes node.entry.bytes.now result (turbulence_made (turbulence_of (node_of node.entry))) 0 }
+{
+    let fields = convert_turbulence(node)?;
+    Ok(Some(Kind::Turbulence(fields)))
+}
+
+// What a node of the sheet gives, by its tag. A match and no table of functions: they take the node, its children and the scale as each needs them.
+#[tactic(auto, unfolding(crate::specs::Elements::by_tag, crate::specs::Elements::kind_of))]
+pub fn kind_of(node: SvgNode<'_>, children: NodeRun<'_>, frame: Frame) -> Made
+    requires { node.bytes ≡ children.bytes }
+    ensures { Makes node.entry.bytes.now result (kind_of frame (node_of node.entry) (nodes_of children.entry)) (children.entry.first + children.entry.count) }
 {
     let size = scale(frame);
-    let name = tag(s, at);
-    match name {
-        eid::FE_DROP_SHADOW => make_drop_shadow(s, at, size),
-        eid::FE_GAUSSIAN_BLUR => make_gaussian_blur(s, at, size),
-        eid::FE_OFFSET => make_offset(s, at, size),
-        eid::FE_BLEND => make_blend(s, at),
-        eid::FE_FLOOD => make_flood(s, at),
-        eid::FE_COMPOSITE => make_composite(s, at),
-        eid::FE_MERGE => make_merge(s, i, n),
-        eid::FE_TILE => make_tile(s, at),
-        eid::FE_COMPONENT_TRANSFER => make_component_transfer(s, at, i, n),
-        eid::FE_COLOR_MATRIX => make_color_matrix(s, at),
-        eid::FE_CONVOLVE_MATRIX => make_convolve_matrix(s, at),
-        eid::FE_MORPHOLOGY => make_morphology(s, at, size),
-        eid::FE_DISPLACEMENT_MAP => make_displacement_map(s, at, size),
-        eid::FE_TURBULENCE => make_turbulence(s, at),
-        eid::FE_DIFFUSE_LIGHTING => make_diffuse_lighting(s, at, i, n),
-        eid::FE_SPECULAR_LIGHTING => make_specular_lighting(s, at, i, n),
-        _ => Made::Unsupported,
+    match node.tag_name() {
+        eid::FE_DROP_SHADOW => make_drop_shadow(node, size),
+        eid::FE_GAUSSIAN_BLUR => make_gaussian_blur(node, size),
+        eid::FE_OFFSET => make_offset(node, size),
+        eid::FE_BLEND => make_blend(node),
+        eid::FE_FLOOD => make_flood(node),
+        eid::FE_COMPOSITE => make_composite(node),
+        eid::FE_MERGE => make_merge(children),
+        eid::FE_TILE => make_tile(node),
+        eid::FE_COMPONENT_TRANSFER => make_component_transfer(node, children),
+        eid::FE_COLOR_MATRIX => make_color_matrix(node),
+        eid::FE_CONVOLVE_MATRIX => make_convolve_matrix(node),
+        eid::FE_MORPHOLOGY => make_morphology(node, size),
+        eid::FE_DISPLACEMENT_MAP => make_displacement_map(node, size),
+        eid::FE_TURBULENCE => make_turbulence(node),
+        eid::FE_DIFFUSE_LIGHTING => make_diffuse_lighting(node, children),
+        eid::FE_SPECULAR_LIGHTING => make_specular_lighting(node, children),
+        _ => Ok(None),
     }
 }

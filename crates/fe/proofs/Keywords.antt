@@ -1,11 +1,11 @@
 -- A table of keywords read from its front: the first word is the text, or it is not; and what holds of each value of the table and of the default
 -- holds of the one that is read. Assumes nothing.
+use Rattle.std.specs.Prelude.{Option}
 use Prim.Native.Nat.{ℕ}
 use Prim.Native.String.{String}
 use mathlib.Core.Bool.{Bool, true, false, cond}
 use mathlib.Core.Path.{◌≡◌, refl, sym, ap, ◌∙◌}
 use mathlib.Core.List.{List, [], ◌∷◌}
-use mathlib.Core.Option.{Option}
 use Rattle.bits.specs.Words.{word}
 use Rattle.num.proofs.Each.{choose}
 use Rattle.fe.specs.Attributes.{is_word}

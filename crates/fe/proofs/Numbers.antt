@@ -1,12 +1,12 @@
 -- What holds of the numbers of a node's values holds of a number that is read from the node, or of its default, and of each number of a list; every
 -- number that is read is finite. Assumes nothing.
+use Rattle.std.specs.Prelude.{None, Option, Some}
 use Prim.Native.Nat.{ℕ, ◌*◌, ◌≤◌}
 use native.Mathlib.Nat.{zero-lt-suc}
 use native.Mathlib.Omega.{arith}
 use mathlib.Core.Path.{refl}
 use mathlib.Core.Bool.{Bool, true, false, cond}
 use mathlib.Core.List.{List, map}
-use mathlib.Core.Option.{Option, none, some}
 use lib.Dec.{T}
 use lib.Ieee.{Float, nan, inf, fin, binary32, up, down, of_bits, mul, le}
 use lib.Ieee.Scale.{finite}
@@ -40,8 +40,8 @@ module _ (P : Float → Type 0) where
 
   -- of each number of a list that may be absent
   abbrev pub ListHolds : Option (List Float) → Type 0
-  ListHolds none = Unit {0}
-  ListHolds (some xs) = Each P xs
+  ListHolds None = Unit {0}
+  ListHolds (Some xs) = Each P xs
 
   number_in_lem : (v : Value) (d : Float) → ValueHolds v → P d → P (or_default (number_in v) d)
   unfolding number_in

@@ -1,4 +1,5 @@
 -- The pair that a list gives, by its length, and what holds of its numbers. Assumes nothing.
+use Rattle.std.specs.Prelude.{None, Option, Some}
 use mathlib.Core.Path.{◌≡◌, refl}
 use mathlib.Core.List.{List, [], ◌∷◌}
 use native.Mathlib.Omega.{arith}
@@ -11,8 +12,6 @@ use Rattle.num.specs.Constants.{plus_zero}
 use Rattle.num.specs.Numbers.{Each}
 use Rattle.num.specs.Sign.{positive}
 use Rattle.fe.specs.declared.pair.Pair.{Pair}
-use Rattle.fe.specs.declared.pair.MaybePair.{MaybePair}
-use Rattle.fe.specs.declared.pair.MaybePair.TheVariants.{Is, No}
 use Rattle.fe.specs.Pairs.{pair_of, pair_in, if_positive}
 
 pub of_one : (xs : List Float) → length xs ≡ 1 → pair_of (get_or xs 0 plus_zero) (get_or xs 0 plus_zero) ≡ pair_in xs
@@ -45,9 +44,9 @@ pair_holds P z (x ∷ y ∷ []) h = (h.0, h.1.0)
 pair_holds P z (x ∷ y ∷ w ∷ rest) h = (z, z)
 
 -- of both numbers of a pair that may be refused
-abbrev pub PairHolds : (Float → Type 0) → MaybePair → Type 0
-PairHolds P (Is p) = P p.x × P p.y
-PairHolds P No = Unit {0}
+abbrev pub PairHolds : (Float → Type 0) → Option Pair → Type 0
+PairHolds P (Some p) = P p.x × P p.y
+PairHolds P None = Unit {0}
 
 abbrev pub Positive : Float → Type 0
 Positive x = T (positive x)
@@ -56,6 +55,6 @@ pub if_positive_lem : (p : Pair) → PairHolds Positive (if_positive p)
 unfolding if_positive
 if_positive_lem p = go (positive p.x && positive p.y) (λ h. h)
   where
-    go : (b : Bool) → (T b → T (positive p.x && positive p.y)) → PairHolds Positive (cond b (Is p) No)
+    go : (b : Bool) → (T b → T (positive p.x && positive p.y)) → PairHolds Positive (cond b (Some p) None)
     go true f = (and_l (positive p.x) (positive p.y) (f tt), and_r (positive p.x) (positive p.y) (f tt))
     go false f = tt

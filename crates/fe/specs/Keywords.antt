@@ -1,7 +1,6 @@
 -- Attributes whose value is a keyword: SVG tells upper from lower case here, and takes no white space around a word. Definitions only.
-use Rattle.std.specs.Prelude.{ℕ, cond, List, [], ◌∷◌}
+use Rattle.std.specs.Prelude.{ℕ, cond, List, [], ◌∷◌, Option}
 use Prim.Native.String.{String}
-use Rattle.std.proofs.Math.Option.{Option}
 use Rattle.bits.specs.Words.{word}
 use Rattle.fe.specs.Attributes.{is_word}
 

@@ -1,11 +1,9 @@
 -- A number for each axis, and the list of one or two numbers that `radius` and `baseFrequency` are. Definitions only.
 -- Filter Effects Module Level 1: one number stands for both axes, of two the first is for x and the second for y.
-use Rattle.std.specs.Prelude.{Bool, not, ◌&&◌, cond, List, [], ◌∷◌, Float}
+use Rattle.std.specs.Prelude.{Bool, not, ◌&&◌, cond, List, [], ◌∷◌, Float, None, Option, Some}
 use Rattle.num.specs.Constants.{plus_zero}
 use Rattle.num.specs.Sign.{positive, sign_negative}
 use Rattle.fe.specs.declared.pair.Pair.{Pair}
-use Rattle.fe.specs.declared.pair.MaybePair.{MaybePair}
-use Rattle.fe.specs.declared.pair.MaybePair.TheVariants.{Is, No}
 
 -- one number for each axis
 abbrev pub pair_of : Float → Float → Pair
@@ -23,5 +21,5 @@ unfoldable pub signs_clear : Pair → Bool
 signs_clear p = not (sign_negative p.x) && not (sign_negative p.y)
 
 -- the pair where both numbers are positive, that is, finite and not below zero
-unfoldable pub if_positive : Pair → MaybePair
-if_positive p = cond (positive p.x && positive p.y) (Is p) No
+unfoldable pub if_positive : Pair → Option Pair
+if_positive p = cond (positive p.x && positive p.y) (Some p) None

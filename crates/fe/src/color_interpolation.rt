@@ -1,17 +1,22 @@
 // color-interpolation-filters, which any element has.
 ghost use Rattle.std.specs.Prelude.{◌≡◌};
-ghost use Rattle.svgtree.specs.Parse.{node_from};
+ghost use Rattle.svgtree.specs.Nodes.{node_of};
 ghost use Rattle.fe.specs.ColorInterpolation.{color_interpolation_of};
 
 use crate::is_word;
 use names::aid;
-use svgtree::text_of;
+use svgtree::SvgNode;
 use tree::ColorInterpolation;
 
-pub fn convert_color_interpolation(s: &[u8], at: u16) -> ColorInterpolation
-    ensures { result ≡ color_interpolation_of (node_from s.now at) }
+#[tactic(auto, unfolding(crate::specs::Keywords::keyword))]
+pub fn convert_color_interpolation(node: SvgNode<'_>) -> ColorInterpolation
+    ensures { result ≡ color_interpolation_of (node_of node.entry) }
 {
-    if is_word(s, text_of(s, at, aid::COLOR_INTERPOLATION_FILTERS), b"sRGB") {
+    if is_word(
+        node.bytes,
+        node.attribute(aid::COLOR_INTERPOLATION_FILTERS),
+        b"sRGB",
+    ) {
         return ColorInterpolation::SRGB;
     }
     ColorInterpolation::LinearRGB

@@ -3,39 +3,37 @@
 
 ghost use Rattle.std.specs.Prelude.{◌≡◌};
 ghost use Rattle.bits.specs.Texts.{maybe_text_is};
-ghost use Rattle.svgtree.specs.Parse.{node_from};
-ghost use Rattle.svgtree.specs.Readers.{or_default};
+ghost use Rattle.svgtree.specs.Nodes.{node_of};
 ghost use Rattle.fe.specs.Attributes.{number_or, is_word};
+ghost use Rattle.fe.specs.Colors.{without_alpha};
 
-use bits::{MaybeText, text_is};
-use svgtree::{MaybeNumber, number_of};
+use bits::{Text, text_is};
+use svgtree::SvgNode;
 
 pub mod color_interpolation;
 pub mod pair;
 
-// The number, or the default where it is absent: Rust's `unwrap_or`.
-pub fn or_else(x: MaybeNumber, default: f32) -> f32
-    ensures { result ≡ or_default x default }
+// A node's number by its id, or the default.
+pub fn number_or(node: SvgNode<'_>, id: u16, default: f32) -> f32
+    ensures { result ≡ number_or (node_of node.entry) id default }
 {
-    match x {
-        MaybeNumber::Is(n) => n,
-        MaybeNumber::No => default,
-    }
+    node.attribute(id).unwrap_or(default)
 }
 
-// A node's number by its id, or the default.
-pub fn number_or(s: &[u8], at: u16, id: u16, default: f32) -> f32
-    ensures { result ≡ number_or (node_from s.now at) id default }
+// A sheet's colour as a list has it.
+pub fn without_alpha(c: svgtree::Color) -> tree::Color
+    ensures { result ≡ without_alpha c }
 {
-    or_else(number_of(s, at, id), default)
+    tree::Color {
+        red: c.red,
+        green: c.green,
+        blue: c.blue,
+    }
 }
 
 // Whether a text is there and is the word.
-pub fn is_word(s: &[u8], t: MaybeText, w: &[u8]) -> bool
+pub fn is_word(s: &[u8], t: Option<Text>, w: &[u8]) -> bool
     ensures { result ≡ is_word (maybe_text_is s.now t) w.now }
 {
-    match t {
-        MaybeText::Is(text) => text_is(s, text, w),
-        MaybeText::No => false,
-    }
+    t.is_some_and(|text| text_is(s, text, w))
 }

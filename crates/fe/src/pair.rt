@@ -12,13 +12,8 @@ pub struct Pair {
     pub y: f32,
 }
 
-#[derive(Clone, Copy)]
-pub enum MaybePair {
-    Is(Pair),
-    No,
-}
-
 // Two numbers, or one for both; 0, 0 for a list of another length.
+#[tactic(auto, using(crate::proofs::Pairs::of_one, crate::proofs::Pairs::of_two, crate::proofs::Pairs::of_others))]
 pub fn list_pair(s: &[u8], ns: Numbers) -> Pair
     ensures { result ≡ pair_in (numbers_is s.now ns) }
 {
@@ -35,23 +30,19 @@ pub fn list_pair(s: &[u8], ns: Numbers) -> Pair
     Pair { x: 0.0, y: 0.0 }
 }
 
+#[tactic(auto, unfolding(crate::specs::Pairs::signs_clear))]
 pub fn signs_clear(p: Pair) -> bool
     ensures { result ≡ signs_clear p }
 {
-    if is_sign_negative(p.x) {
-        return false;
-    }
-    !is_sign_negative(p.y)
+    !is_sign_negative(p.x) && !is_sign_negative(p.y)
 }
 
-pub fn if_positive(p: Pair) -> MaybePair
+#[tactic(auto, unfolding(crate::specs::Pairs::if_positive))]
+pub fn if_positive(p: Pair) -> Option<Pair>
     ensures { result ≡ if_positive p }
 {
-    if !is_positive(p.x) {
-        return MaybePair::No;
+    if is_positive(p.x) && is_positive(p.y) {
+        return Some(p);
     }
-    if !is_positive(p.y) {
-        return MaybePair::No;
-    }
-    MaybePair::Is(p)
+    None
 }

@@ -1,6 +1,5 @@
 -- Cases of `stdDeviation` and of its scaling, each found by computing.
-use Rattle.std.specs.Prelude.{◌≡◌, refl, [], ◌∷◌, Float}
-use Rattle.std.proofs.Math.Option.{Option, none, some}
+use Rattle.std.specs.Prelude.{◌≡◌, refl, [], ◌∷◌, Float, None, Option, Some}
 use Rattle.std.specs.Float.{binary32, binary64}
 use Rattle.std.specs.Float.Ieee.{of_bits, mul, round, le}
 use Rattle.names.specs.Ids.{eid_fe_gaussian_blur, aid_std_deviation}
@@ -18,20 +17,20 @@ trying t = record { depth = 0; tag = eid_fe_gaussian_blur; font_size = plus_zero
 
 -- a try that gave 1, and one that gave 2
 abbrev tried_one : Option Float
-tried_one = some (of_bits binary64 0x3ff0_0000_0000_0000)
+tried_one = Some (of_bits binary64 0x3ff0_0000_0000_0000)
 
 abbrev tried_two : Option Float
-tried_two = some (of_bits binary64 0x4000_0000_0000_0000)
+tried_two = Some (of_bits binary64 0x4000_0000_0000_0000)
 
 abbrev one_by_one : Size
 one_by_one = record { width = one; height = one }
 
 -- number, number, error gives both; one number stands for both
-pub two_numbers : deviations_of (trying (record { first = tried_one; second = tried_two; third = none })) one_by_one two ≡ pair_of one two
+pub two_numbers : deviations_of (trying (record { first = tried_one; second = tried_two; third = None })) one_by_one two ≡ pair_of one two
 unfolding value_under tries_in deviation or_zero narrowed mul le round of_bits
 two_numbers = refl
 
-pub one_number : deviations_of (trying (record { first = tried_two; second = none; third = none })) one_by_one two ≡ pair_of two two
+pub one_number : deviations_of (trying (record { first = tried_two; second = None; third = None })) one_by_one two ≡ pair_of two two
 unfolding value_under tries_in deviation or_zero narrowed mul le round of_bits
 one_number = refl
 

@@ -1,8 +1,7 @@
 -- feGaussianBlur, and its attribute `stdDeviation`, which feDropShadow has too. Definitions only.
 -- Filter Effects Module Level 1, feGaussianBlur: `stdDeviation` is one number for both axes, or one for x and one for y; absent, it is 0. For
 -- feDropShadow it is 2 where absent.
-use Rattle.std.specs.Prelude.{cond, Float}
-use Rattle.std.proofs.Math.Option.{Option, none, some}
+use Rattle.std.specs.Prelude.{cond, Float, None, Option, Some}
 use Rattle.std.specs.Float.{binary32}
 use Rattle.std.specs.Float.Ieee.{mul}
 use Rattle.names.specs.Ids.{aid_std_deviation}
@@ -18,21 +17,21 @@ use Rattle.fe.specs.Pairs.{pair_of}
 
 -- the first two tries: two numbers, one number for both axes, or none
 abbrev pub one_or_two : Option Float → Option Float → Pair
-one_or_two (some x) (some y) = pair_of (as_f32 x) (as_f32 y)
-one_or_two (some x) none = pair_of (as_f32 x) (as_f32 x)
-one_or_two none second = pair_of plus_zero plus_zero
+one_or_two (Some x) (Some y) = pair_of (as_f32 x) (as_f32 y)
+one_or_two (Some x) None = pair_of (as_f32 x) (as_f32 x)
+one_or_two None second = pair_of plus_zero plus_zero
 
 -- "Only three tries at stdDeviation count: number, number, error gives both numbers; three numbers give 0, 0".
 -- The document: a list that is not one or two numbers is an error, as if the attribute were absent (not certain). The crate: 0, 0, for feDropShadow too,
 -- and one or two numbers count where what follows them is no number.
 abbrev pub numbers_tried : Option Float → Option Float → Option Float → Pair
-numbers_tried first second none = one_or_two first second
-numbers_tried first second (some z) = pair_of plus_zero plus_zero
+numbers_tried first second None = one_or_two first second
+numbers_tried first second (Some z) = pair_of plus_zero plus_zero
 
 -- the same of an attribute that may be absent
 abbrev pub numbers_or_default : Option Tried → Float → Pair
-numbers_or_default none default = pair_of default default
-numbers_or_default (some t) default = numbers_tried t.first t.second t.third
+numbers_or_default None default = pair_of default default
+numbers_or_default (Some t) default = numbers_tried t.first t.second t.third
 
 -- "radius, deviation .. are positive": a deviation is scaled first and compared then, and is 0 where the product is not positive.
 -- The document: a negative number disables the whole blur. The crate: it is 0, for its own axis alone.

@@ -1,5 +1,4 @@
-// The elements that blur, move and shade a picture, a module for each. A node is given by its offset in the sheet; `scale` is the size of the object's
-// box in box units, and else 1 by 1.
+// The elements that blur, move and shade a picture, a module for each. `scale` is the size of the object's box in box units, and else 1 by 1.
 #![tactic(auto)]
 
 pub mod drop_shadow;

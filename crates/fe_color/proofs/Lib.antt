@@ -1,5 +1,4 @@
 -- the laws that belong to no one function
-pub mod First
 pub mod Transfer
 pub mod Bounds
 pub mod Numbers

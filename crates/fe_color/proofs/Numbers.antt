@@ -1,10 +1,10 @@
 -- What holds of 0, of 1 and of the numbers of a node's values holds of every number of these kinds: so each is finite. A matrix has twenty numbers, and
 -- a saturation lies between 0 and 1. Assumes nothing.
+use Rattle.std.specs.Prelude.{None, Option, Some}
 use Prim.Native.Nat.{ℕ}
 use mathlib.Core.Path.{◌≡◌, refl}
 use mathlib.Core.Bool.{Bool, true, false, cond}
 use mathlib.Core.List.{List, [], ◌∷◌, ◌++◌}
-use mathlib.Core.Option.{Option, none, some}
 use lib.Dec.{T, eqb}
 use borrow.Author.Tests.{eqb-true}
 use lib.ListN.{length}
@@ -32,15 +32,15 @@ use Rattle.fe_color.proofs.Bounds.{bound_range}
 -- ---- feComponentTransfer: what holds of every readable function of some children and of the default holds of the last
 
 abbrev pub OptionHolds : (TransferFunction → Type 0) → Option TransferFunction → Type 0
-OptionHolds Q none = Unit {0}
-OptionHolds Q (some f) = Q f
+OptionHolds Q None = Unit {0}
+OptionHolds Q (Some f) = Q f
 
 module _ (R : Node → Type 0) (Q : TransferFunction → Type 0) (readable : (n : Node) → R n → OptionHolds Q (transfer_function_of n)) where
   last_wanted : (b : Bool) (o : Option TransferFunction) (d : TransferFunction) (fs : List TransferFunction)
       → ((f : TransferFunction) → Q f → Q (last_or f fs)) → OptionHolds Q o → Q d → Q (last_or d (wanted b o ++ fs))
   unfolding last_or
-  last_wanted true (some f) d fs r h k = r f h
-  last_wanted true none d fs r h k = r d k
+  last_wanted true (Some f) d fs r h k = r f h
+  last_wanted true None d fs r h k = r d k
   last_wanted false o d fs r h k = r d k
 
   pub last_holds : (tag : ℕ) (children : List Node) → Each R children → (d : TransferFunction) → Q d → Q (last_or d (functions_of tag children))
@@ -71,16 +71,16 @@ module _ (P : Float → Type 0) (zero-holds : P plus_zero) (one-Holds : P one) w
   bound_holds v h = choose P (lt one v) one (cond (le plus_zero v) v plus_zero) one-Holds (choose P (le plus_zero v) v plus_zero h zero-holds)
 
   saturate_holds : (values : Option (List Float)) → ListHolds P values → Each P (color_matrix_numbers (saturate_of values))
-  saturate_holds none h = identity_holds
-  saturate_holds (some xs) h = (bound_holds (first_or one xs) (first_holds P one xs one-Holds h), tt)
+  saturate_holds None h = identity_holds
+  saturate_holds (Some xs) h = (bound_holds (first_or one xs) (first_holds P one xs one-Holds h), tt)
 
   hue_holds : (values : Option (List Float)) → ListHolds P values → Each P (color_matrix_numbers (hue_rotate_of values))
-  hue_holds none h = identity_holds
-  hue_holds (some xs) h = (first_holds P plus_zero xs zero-holds h, tt)
+  hue_holds None h = identity_holds
+  hue_holds (Some xs) h = (first_holds P plus_zero xs zero-holds h, tt)
 
   matrix_holds : (values : Option (List Float)) → ListHolds P values → Each P (color_matrix_numbers (matrix_of values))
-  matrix_holds none h = identity_holds
-  matrix_holds (some xs) h =
+  matrix_holds None h = identity_holds
+  matrix_holds (Some xs) h =
       choose (λ (k : ColorMatrixKind). Each P (color_matrix_numbers k)) (eqb (length xs) 20) (Matrix xs) (Matrix identity_matrix) h identity_holds
 
   pub color_matrix_holds : (n : Node) → NodeHolds P n → Each P (color_matrix_numbers (color_matrix_kind_of n))
@@ -92,8 +92,8 @@ module _ (P : Float → Type 0) (zero-holds : P plus_zero) (one-Holds : P one) w
       (matrix_holds values k)
 
   table_holds : (values : Option (List Float)) → ListHolds P values → Each P (or_empty values)
-  table_holds none h = tt
-  table_holds (some xs) h = h
+  table_holds None h = tt
+  table_holds (Some xs) h = h
 
   module _ (n : Node) (h : NodeHolds P n) where
     zero_or : (id : ℕ) → P (number_or n id plus_zero)
@@ -106,7 +106,7 @@ module _ (P : Float → Type 0) (zero-holds : P plus_zero) (one-Holds : P one) w
     unfolding transfer_function_of
     function_holds =
         let table = table_holds (numbers_of n aid_table_values) (numbers_of_lem P n h aid_table_values) in
-        keyword_holds (OptionHolds (λ (f : TransferFunction). Each P (transfer_function_numbers f))) _ none (text_of n aid_type)
+        keyword_holds (OptionHolds (λ (f : TransferFunction). Each P (transfer_function_numbers f))) _ None (text_of n aid_type)
         (tt
         and table
         and table
@@ -164,17 +164,17 @@ unfolding of_bits lt eq le
 one_one = tt
 
 saturate_range : (values : Option (List Float)) → ListHolds IsFinite values → ColorMatrixRange (saturate_of values)
-saturate_range none h = identity_length
-saturate_range (some xs) h =
+saturate_range None h = identity_length
+saturate_range (Some xs) h =
     bound_range plus_zero (first_or one xs) one (first_holds IsFinite one xs one_finite h) one_finite zero_one zero_zero one_one
 
 hue_range : (values : Option (List Float)) → ColorMatrixRange (hue_rotate_of values)
-hue_range none = identity_length
-hue_range (some xs) = tt
+hue_range None = identity_length
+hue_range (Some xs) = tt
 
 matrix_range : (values : Option (List Float)) → ColorMatrixRange (matrix_of values)
-matrix_range none = identity_length
-matrix_range (some xs) = go (eqb (length xs) 20) refl
+matrix_range None = identity_length
+matrix_range (Some xs) = go (eqb (length xs) 20) refl
   where
     go : (b : Bool) → eqb (length xs) 20 ≡ b → ColorMatrixRange (cond b (Matrix xs) (Matrix identity_matrix))
     go true e = eqb-true (length xs) 20 e

@@ -1,6 +1,5 @@
 -- The element feColorMatrix (Filter Effects Module Level 1): its attributes `type` and `values`. Definitions only.
-use Rattle.std.specs.Prelude.{cond, List, [], ◌∷◌, eqb, length, Float}
-use Rattle.std.proofs.Math.Option.{Option, none, some}
+use Rattle.std.specs.Prelude.{cond, List, [], ◌∷◌, eqb, length, Float, None, Option, Some}
 use Rattle.names.specs.Ids.{aid_type, aid_values}
 use Rattle.num.specs.Constants.{plus_zero, one}
 use Rattle.num.specs.Sign.{f32_bound}
@@ -17,18 +16,18 @@ first_or default (x ∷ xs) = x
 -- `saturate`: one number, 1 where the list has none. The document: exactly one number, and nothing changes with another count (not certain). The crate: the
 -- first of the list, held between 0 and 1. Without a list the document has 1, and the crate the matrix that changes nothing, which gives the same picture.
 abbrev pub saturate_of : Option (List Float) → ColorMatrixKind
-saturate_of none = Matrix identity_matrix
-saturate_of (some xs) = Saturate (f32_bound plus_zero (first_or one xs) one)
+saturate_of None = Matrix identity_matrix
+saturate_of (Some xs) = Saturate (f32_bound plus_zero (first_or one xs) one)
 
 -- `hueRotate`: one number, an angle in degrees, 0 where the list has none. Longer lists and an absent one as above.
 abbrev pub hue_rotate_of : Option (List Float) → ColorMatrixKind
-hue_rotate_of none = Matrix identity_matrix
-hue_rotate_of (some xs) = HueRotate (first_or plus_zero xs)
+hue_rotate_of None = Matrix identity_matrix
+hue_rotate_of (Some xs) = HueRotate (first_or plus_zero xs)
 
 -- `matrix`: twenty numbers; with any other count, or without a list, nothing changes
 abbrev pub matrix_of : Option (List Float) → ColorMatrixKind
-matrix_of none = Matrix identity_matrix
-matrix_of (some xs) = cond (eqb (length xs) 20) (Matrix xs) (Matrix identity_matrix)
+matrix_of None = Matrix identity_matrix
+matrix_of (Some xs) = cond (eqb (length xs) 20) (Matrix xs) (Matrix identity_matrix)
 
 -- `type` is `matrix` where it is absent or another text
 abbrev pub color_matrix_kind_of : Node → ColorMatrixKind

@@ -1,7 +1,6 @@
 -- The element feComponentTransfer and its children feFuncR, feFuncG, feFuncB, feFuncA (Filter Effects Module Level 1, "transfer function
 -- element attributes"). Definitions only.
-use Rattle.std.specs.Prelude.{ℕ, Bool, true, false, List, [], ◌∷◌, ◌++◌, eqb, Float}
-use Rattle.std.proofs.Math.Option.{Option, none, some}
+use Rattle.std.specs.Prelude.{ℕ, Bool, true, false, List, [], ◌∷◌, ◌++◌, eqb, Float, None, Option, Some}
 use Rattle.names.specs.Ids.{aid_type, aid_table_values, aid_slope, aid_intercept, aid_amplitude, aid_exponent, aid_offset, eid_fe_func_r, eid_fe_func_g, eid_fe_func_b, eid_fe_func_a}
 use Rattle.num.specs.Constants.{plus_zero, one}
 use Rattle.svgtree.specs.Values.{Node}
@@ -12,8 +11,8 @@ use Rattle.fe.specs.Keywords.{Keyword, ◌means◌, keyword}
 
 -- an absent list is an empty one
 abbrev pub or_empty : Option (List Float) → List Float
-or_empty none = []
-or_empty (some xs) = xs
+or_empty None = []
+or_empty (Some xs) = xs
 
 abbrev pub table_values_of : Node → List Float
 table_values_of n = or_empty (numbers_of n aid_table_values)
@@ -27,22 +26,22 @@ gamma_of n = Gamma (number_or n aid_amplitude one) (number_or n aid_exponent one
 -- the values of `type`
 abbrev pub function_types : Node → List (Keyword (Option TransferFunction))
 function_types n =
-    "identity" means some Identity
-    ∷ "table" means some (Table (table_values_of n))
-    ∷ "discrete" means some (Discrete (table_values_of n))
-    ∷ "linear" means some (linear_of n)
-    ∷ "gamma" means some (gamma_of n)
+    "identity" means Some Identity
+    ∷ "table" means Some (Table (table_values_of n))
+    ∷ "discrete" means Some (Discrete (table_values_of n))
+    ∷ "linear" means Some (linear_of n)
+    ∷ "gamma" means Some (gamma_of n)
     ∷ []
 
 -- an element's function by its `type`. The document: `identity` where `type` is absent; the crate: an element whose `type` is absent or no
 -- keyword is not readable.
 unfoldable pub transfer_function_of : Node → Option TransferFunction
-transfer_function_of n = keyword (function_types n) none (text_of n aid_type)
+transfer_function_of n = keyword (function_types n) None (text_of n aid_type)
 
 -- a value in a list of its own, where it is there and wanted
 abbrev pub wanted : {A : Type 0} → Bool → Option A → List A
-wanted true (some x) = x ∷ []
-wanted true none = []
+wanted true (Some x) = x ∷ []
+wanted true None = []
 wanted false o = []
 
 -- of the children with a tag, the functions of those that are readable, in order

@@ -1,17 +1,14 @@
 -- What the code's answers that hold places stand for over the sheet's bytes. Definitions only.
-use Rattle.std.specs.Prelude.{ℕ, cond, List, eqb}
-use Rattle.std.proofs.Math.Option.{Option, none, some}
+use Rattle.std.specs.Prelude.{ℕ, cond, List, eqb, None, Option, Some}
 use Rattle.names.specs.Ids.{eid_fe_func_r, eid_fe_func_g, eid_fe_func_b, eid_fe_func_a}
 use Rattle.tree.specs.Kinds as spec
 use Rattle.tree.specs.Means.{transfer_function_is}
 use Rattle.tree.specs.declared.TransferFunction.{TransferFunction}
 use Rattle.tree.specs.declared.ComponentTransfer.{ComponentTransfer}
-use Rattle.fe_color.specs.declared.component_transfer.MaybeTransferFunction.{MaybeTransferFunction}
-use Rattle.fe_color.specs.declared.component_transfer.MaybeTransferFunction.TheVariants.{Is, No}
 
-abbrev pub maybe_transfer_function_is : List ℕ → MaybeTransferFunction → Option spec.TransferFunction
-maybe_transfer_function_is s (Is f) = some (transfer_function_is s f)
-maybe_transfer_function_is s No = none
+abbrev pub maybe_transfer_function_is : List ℕ → Option TransferFunction → Option spec.TransferFunction
+maybe_transfer_function_is s (Some f) = Some (transfer_function_is s f)
+maybe_transfer_function_is s None = None
 
 -- the function given to the channel of the tag; a tag of no channel changes nothing
 unfoldable pub assigned : ComponentTransfer → ℕ → TransferFunction → ComponentTransfer

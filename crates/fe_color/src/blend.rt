@@ -1,18 +1,19 @@
 // feBlend.
 ghost use Rattle.std.specs.Prelude.{◌≡◌, drop};
 ghost use Rattle.bits.specs.Texts.{maybe_text_is};
-ghost use Rattle.svgtree.specs.Parse.{node_from};
+ghost use Rattle.svgtree.specs.Nodes.{node_of};
 ghost use Rattle.fe.specs.Keywords.{keyword};
 ghost use Rattle.fe_color.specs.Blend.{modes, mode_of};
 
-use bits::MaybeText;
+use bits::Text;
 use fe::is_word;
 use names::aid;
-use svgtree::text_of;
+use svgtree::SvgNode;
 use tree::BlendMode;
 
 // The modes from soft-light on.
-fn later_mode(s: &[u8], t: MaybeText) -> BlendMode
+#[tactic(auto, unfolding(fe::specs::Keywords::keyword))]
+fn later_mode(s: &[u8], t: Option<Text>) -> BlendMode
     ensures { result ≡ keyword (drop 8 modes) BlendMode.Normal (maybe_text_is s.now t) }
 {
     if is_word(s, t, b"soft-light") {
@@ -39,7 +40,8 @@ fn later_mode(s: &[u8], t: MaybeText) -> BlendMode
     BlendMode::Normal
 }
 
-fn mode(s: &[u8], t: MaybeText) -> BlendMode
+#[tactic(auto, unfolding(fe::specs::Keywords::keyword))]
+fn mode(s: &[u8], t: Option<Text>) -> BlendMode
     ensures { result ≡ keyword modes BlendMode.Normal (maybe_text_is s.now t) }
 {
     if is_word(s, t, b"multiply") {
@@ -69,8 +71,8 @@ fn mode(s: &[u8], t: MaybeText) -> BlendMode
     later_mode(s, t)
 }
 
-pub fn convert_blend(s: &[u8], at: u16) -> BlendMode
-    ensures { result ≡ mode_of (node_from s.now at) }
+pub fn convert_blend(node: SvgNode<'_>) -> BlendMode
+    ensures { result ≡ mode_of (node_of node.entry) }
 {
-    mode(s, text_of(s, at, aid::MODE))
+    mode(node.bytes, node.attribute(aid::MODE))
 }

@@ -1,7 +1,7 @@
 // feColorMatrix.
 ghost use Rattle.std.specs.Prelude.{◌≡◌};
 ghost use Rattle.number_list.specs.Lists.{numbers_is};
-ghost use Rattle.svgtree.specs.Parse.{node_from};
+ghost use Rattle.svgtree.specs.Nodes.{node_of};
 ghost use Rattle.svgtree.specs.Means.{maybe_numbers_is};
 ghost use Rattle.tree.specs.Means.{color_matrix_kind_is};
 ghost use Rattle.fe_color.specs.ColorMatrix.{first_or, saturate_of, hue_rotate_of, matrix_of, color_matrix_kind_of};
@@ -10,7 +10,7 @@ use fe::is_word;
 use names::aid;
 use num::f32_bound;
 use number_list::{Numbers, number_at, numbers_len};
-use svgtree::{MaybeNumbers, numbers_of, text_of};
+use svgtree::SvgNode;
 use tree::ColorMatrixKind;
 
 fn first_or(s: &[u8], list: Numbers, default: f32) -> f32
@@ -22,55 +22,47 @@ fn first_or(s: &[u8], list: Numbers, default: f32) -> f32
     number_at(s, list, 0)
 }
 
-fn saturate(s: &[u8], values: MaybeNumbers) -> ColorMatrixKind
+fn saturate(s: &[u8], values: Option<Numbers>) -> ColorMatrixKind
     ensures { color_matrix_kind_is s.now result ≡ saturate_of (maybe_numbers_is s.now values) }
 {
     match values {
-        MaybeNumbers::Is(list) => {
-            let n = f32_bound(0.0, first_or(s, list, 1.0), 1.0);
-            ColorMatrixKind::Saturate(n)
-        }
-        MaybeNumbers::No => ColorMatrixKind::Identity,
+        Some(list) => ColorMatrixKind::Saturate(f32_bound(0.0, first_or(s, list, 1.0), 1.0)),
+        None => ColorMatrixKind::Identity,
     }
 }
 
-fn hue_rotate(s: &[u8], values: MaybeNumbers) -> ColorMatrixKind
+fn hue_rotate(s: &[u8], values: Option<Numbers>) -> ColorMatrixKind
     ensures { color_matrix_kind_is s.now result ≡ hue_rotate_of (maybe_numbers_is s.now values) }
 {
     match values {
-        MaybeNumbers::Is(list) => ColorMatrixKind::HueRotate(first_or(s, list, 0.0)),
-        MaybeNumbers::No => ColorMatrixKind::Identity,
+        Some(list) => ColorMatrixKind::HueRotate(first_or(s, list, 0.0)),
+        None => ColorMatrixKind::Identity,
     }
 }
 
-fn matrix(s: &[u8], values: MaybeNumbers) -> ColorMatrixKind
+fn matrix(s: &[u8], values: Option<Numbers>) -> ColorMatrixKind
     ensures { color_matrix_kind_is s.now result ≡ matrix_of (maybe_numbers_is s.now values) }
 {
     match values {
-        MaybeNumbers::Is(list) => {
-            if numbers_len(s, list) == 20 {
-                ColorMatrixKind::Matrix(list)
-            } else {
-                ColorMatrixKind::Identity
-            }
-        }
-        MaybeNumbers::No => ColorMatrixKind::Identity,
+        Some(list) if numbers_len(s, list) == 20 => ColorMatrixKind::Matrix(list),
+        _ => ColorMatrixKind::Identity,
     }
 }
 
-pub fn convert_color_matrix_kind(s: &[u8], at: u16) -> ColorMatrixKind
-    ensures { color_matrix_kind_is s.now result ≡ color_matrix_kind_of (node_from s.now at) }
+#[tactic(auto, unfolding(fe::specs::Keywords::keyword))]
+pub fn convert_color_matrix_kind(node: SvgNode<'_>) -> ColorMatrixKind
+    ensures { color_matrix_kind_is node.entry.bytes.now result ≡ color_matrix_kind_of (node_of node.entry) }
 {
-    let t = text_of(s, at, aid::TYPE);
-    let values = numbers_of(s, at, aid::VALUES);
-    if is_word(s, t, b"saturate") {
-        return saturate(s, values);
+    let kind = node.attribute(aid::TYPE);
+    let values = node.attribute(aid::VALUES);
+    if is_word(node.bytes, kind, b"saturate") {
+        return saturate(node.bytes, values);
     }
-    if is_word(s, t, b"hueRotate") {
-        return hue_rotate(s, values);
+    if is_word(node.bytes, kind, b"hueRotate") {
+        return hue_rotate(node.bytes, values);
     }
-    if is_word(s, t, b"luminanceToAlpha") {
+    if is_word(node.bytes, kind, b"luminanceToAlpha") {
         return ColorMatrixKind::LuminanceToAlpha;
     }
-    matrix(s, values)
+    matrix(node.bytes, values)
 }

@@ -1,7 +1,7 @@
 // feComponentTransfer and its children feFuncR, feFuncG, feFuncB and feFuncA.
-ghost use Rattle.std.specs.Prelude.{◌≡◌, ◌+◌, ◌<◌, cond, [], ◌∷◌, eqb};
+ghost use Rattle.std.specs.Prelude.{◌≡◌, [], ◌∷◌};
 ghost use Rattle.number_list.specs.Lists.{numbers_is};
-ghost use Rattle.svgtree.specs.Parse.{node_from, nodes_from};
+ghost use Rattle.svgtree.specs.Nodes.{node_of, nodes_of};
 ghost use Rattle.tree.specs.Means.{transfer_function_is, component_transfer_is};
 ghost use Rattle.fe_color.specs.ComponentTransfer.{table_values_of, linear_of, gamma_of, transfer_function_of, transfer_from, component_transfer_of};
 ghost use Rattle.fe_color.specs.Means.{maybe_transfer_function_is, assigned};
@@ -9,116 +9,104 @@ ghost use Rattle.fe_color.specs.Means.{maybe_transfer_function_is, assigned};
 use fe::{is_word, number_or};
 use names::{aid, eid};
 use number_list::{Numbers, no_numbers};
-use svgtree::{MaybeNumbers, node_offset, numbers_of, tag, text_of};
+use svgtree::SvgNode;
+use svgtree::run::NodeRun;
 use tree::{ComponentTransfer, TransferFunction};
 
-// A function, or that the element is not readable.
-#[derive(Clone, Copy)]
-pub enum MaybeTransferFunction {
-    Is(TransferFunction),
-    No,
-}
-
 // `tableValues`, an empty list where it is absent.
-fn table_values(s: &[u8], at: u16) -> Numbers
-    ensures { numbers_is s.now result ≡ table_values_of (node_from s.now at) }
+fn table_values(node: SvgNode<'_>) -> Numbers
+    ensures { numbers_is node.entry.bytes.now result ≡ table_values_of (node_of node.entry) }
 {
-    let values = numbers_of(s, at, aid::TABLE_VALUES);
-    match values {
-        MaybeNumbers::Is(list) => list,
-        MaybeNumbers::No => no_numbers(),
-    }
+    node.attribute(aid::TABLE_VALUES).unwrap_or(no_numbers())
 }
 
-fn linear(s: &[u8], at: u16) -> TransferFunction
-    ensures { transfer_function_is s.now result ≡ linear_of (node_from s.now at) }
+fn linear(node: SvgNode<'_>) -> TransferFunction
+    ensures { transfer_function_is node.entry.bytes.now result ≡ linear_of (node_of node.entry) }
 {
     TransferFunction::Linear {
-        slope: number_or(s, at, aid::SLOPE, 1.0),
-        intercept: number_or(s, at, aid::INTERCEPT, 0.0),
+        slope: number_or(node, aid::SLOPE, 1.0),
+        intercept: number_or(node, aid::INTERCEPT, 0.0),
     }
 }
 
-fn gamma(s: &[u8], at: u16) -> TransferFunction
-    ensures { transfer_function_is s.now result ≡ gamma_of (node_from s.now at) }
+fn gamma(node: SvgNode<'_>) -> TransferFunction
+    ensures { transfer_function_is node.entry.bytes.now result ≡ gamma_of (node_of node.entry) }
 {
     TransferFunction::Gamma {
-        amplitude: number_or(s, at, aid::AMPLITUDE, 1.0),
-        exponent: number_or(s, at, aid::EXPONENT, 1.0),
-        offset: number_or(s, at, aid::OFFSET, 0.0),
+        amplitude: number_or(node, aid::AMPLITUDE, 1.0),
+        exponent: number_or(node, aid::EXPONENT, 1.0),
+        offset: number_or(node, aid::OFFSET, 0.0),
     }
 }
 
-pub fn convert_transfer_function(s: &[u8], at: u16) -> MaybeTransferFunction
-    ensures { maybe_transfer_function_is s.now result ≡ transfer_function_of (node_from s.now at) }
+#[tactic(auto, unfolding(fe::specs::Keywords::keyword, crate::specs::ComponentTransfer::transfer_function_of))]
+pub fn convert_transfer_function(node: SvgNode<'_>) -> Option<TransferFunction>
+    ensures { maybe_transfer_function_is node.entry.bytes.now result ≡ transfer_function_of (node_of node.entry) }
 {
-    let t = text_of(s, at, aid::TYPE);
-    if is_word(s, t, b"identity") {
-        return MaybeTransferFunction::Is(TransferFunction::Identity);
+    let kind = node.attribute(aid::TYPE);
+    if is_word(node.bytes, kind, b"identity") {
+        return Some(TransferFunction::Identity);
     }
-    if is_word(s, t, b"table") {
-        return MaybeTransferFunction::Is(TransferFunction::Table(table_values(s, at)));
+    if is_word(node.bytes, kind, b"table") {
+        return Some(TransferFunction::Table(table_values(node)));
     }
-    if is_word(s, t, b"discrete") {
-        return MaybeTransferFunction::Is(TransferFunction::Discrete(table_values(s, at)));
+    if is_word(node.bytes, kind, b"discrete") {
+        return Some(TransferFunction::Discrete(table_values(node)));
     }
-    if is_word(s, t, b"linear") {
-        return MaybeTransferFunction::Is(linear(s, at));
+    if is_word(node.bytes, kind, b"linear") {
+        return Some(linear(node));
     }
-    if is_word(s, t, b"gamma") {
-        return MaybeTransferFunction::Is(gamma(s, at));
+    if is_word(node.bytes, kind, b"gamma") {
+        return Some(gamma(node));
     }
-    MaybeTransferFunction::No
+    None
 }
 
-// A channel's function once `func` has been given to the channel of a tag.
-fn channel(own: u8, tag: u8, func: TransferFunction, given: TransferFunction) -> TransferFunction
-    ensures { result ≡ cond (eqb tag own) func given }
-{
-    if tag == own { func } else { given }
-}
-
-// A field that is an enum is not stored to, so the struct is written anew.
+// The functions once `func` has been given to the channel of a tag.
+#[tactic(auto, unfolding(crate::specs::Means::assigned))]
 fn assign(kind: ComponentTransfer, tag: u8, func: TransferFunction) -> ComponentTransfer
     ensures { result ≡ assigned kind tag func }
 {
-    let func_r = kind.func_r;
-    let func_g = kind.func_g;
-    let func_b = kind.func_b;
-    let func_a = kind.func_a;
-    ComponentTransfer {
-        func_r: channel(eid::FE_FUNC_R, tag, func, func_r),
-        func_g: channel(eid::FE_FUNC_G, tag, func, func_g),
-        func_b: channel(eid::FE_FUNC_B, tag, func, func_b),
-        func_a: channel(eid::FE_FUNC_A, tag, func, func_a),
+    match tag {
+        eid::FE_FUNC_R => ComponentTransfer {
+            func_r: func,
+            ..kind
+        },
+        eid::FE_FUNC_G => ComponentTransfer {
+            func_g: func,
+            ..kind
+        },
+        eid::FE_FUNC_B => ComponentTransfer {
+            func_b: func,
+            ..kind
+        },
+        eid::FE_FUNC_A => ComponentTransfer {
+            func_a: func,
+            ..kind
+        },
+        _ => kind,
     }
 }
 
 // The functions once a child has been looked at: only a readable one changes them.
-fn with_child(s: &[u8], at: u16, kind: ComponentTransfer) -> ComponentTransfer
-    ensures { component_transfer_is s.now result ≡ transfer_from (component_transfer_is s.now kind) (node_from s.now at ∷ []) }
+#[tactic(auto, using(crate::proofs::Transfer::child_yes, crate::proofs::Transfer::child_no))]
+fn with_child(kind: ComponentTransfer, child: SvgNode<'_>) -> ComponentTransfer
+    ensures { component_transfer_is child.entry.bytes.now result ≡ transfer_from (component_transfer_is child.entry.bytes.now kind) (node_of child.entry ∷ []) }
 {
-    let f = convert_transfer_function(s, at);
-    match f {
-        MaybeTransferFunction::Is(func) => assign(kind, tag(s, at), func),
-        MaybeTransferFunction::No => kind,
+    match convert_transfer_function(child) {
+        Some(func) => assign(kind, child.tag_name(), func),
+        None => kind,
     }
 }
 
-pub fn convert_component_transfer(s: &[u8], i: u16, n: u16) -> ComponentTransfer
-    requires { i + n < 65536 }
-    ensures { component_transfer_is s.now result ≡ component_transfer_of (nodes_from s.now (i + 1) n) }
+pub fn convert_component_transfer(children: NodeRun<'_>) -> ComponentTransfer
+    ensures { component_transfer_is children.entry.bytes.now result ≡ component_transfer_of (nodes_of children.entry) }
 {
-    let mut kind = ComponentTransfer {
+    let unchanged = ComponentTransfer {
         func_r: TransferFunction::Identity,
         func_g: TransferFunction::Identity,
         func_b: TransferFunction::Identity,
         func_a: TransferFunction::Identity,
     };
-    let mut k: u16 = 0;
-    while k < n {
-        kind = with_child(s, node_offset(s, i + 1 + k), kind);
-        k += 1;
-    }
-    kind
+    (0..children.count).fold(unchanged, |kind, k| with_child(kind, children.get(k)))
 }

@@ -1,7 +1,7 @@
 -- feDisplacementMap. Definitions only.
 -- Filter Effects Module Level 1, feDisplacementMap: `scale` is 0 where absent, `xChannelSelector` and `yChannelSelector` are A.
-use Rattle.std.specs.Prelude.{ℕ, cond, List, [], ◌∷◌, Float}
-use Rattle.std.proofs.Math.Option.{Option}
+use Rattle.answer.specs.declared.Refusal.{Refusal}
+use Rattle.std.specs.Prelude.{ℕ, cond, List, [], ◌∷◌, Float, Err, Ok, Option, Result}
 use Rattle.std.specs.Float.{binary32}
 use Rattle.std.specs.Float.Ieee.{add, mul, div}
 use Rattle.std.specs.Float.Ieee.Scale.{finite}
@@ -16,8 +16,6 @@ use Rattle.tree.specs.declared.ColorChannel.TheVariants.{R, G, B, A}
 use Rattle.tree.specs.declared.DisplacementMap.{DisplacementMap}
 use Rattle.fe.specs.Attributes.{number_or}
 use Rattle.fe.specs.Keywords.{◌means◌, keyword}
-use Rattle.fe_displacement_map.specs.declared.MaybeDisplacementMap.{MaybeDisplacementMap}
-use Rattle.fe_displacement_map.specs.declared.MaybeDisplacementMap.TheVariants.{Is, Refused}
 
 -- a channel selector: A where it is absent or another text
 abbrev pub channel_of : Option (List ℕ) → ColorChannel
@@ -38,5 +36,5 @@ displacement_with n sum =
 
 -- "for feDisplacementMap in box units, box width + height isn't finite (the crate may give NaN)": a refusal, whatever `scale` is. In user space
 -- the size is 1 by 1, and so is the sum finite.
-abbrev pub displacement_map_of : Node → Size → MaybeDisplacementMap
-displacement_map_of n scale = cond (finite (box_sum scale)) (Is (displacement_with n (box_sum scale))) (Refused Unrepresentable)
+abbrev pub displacement_map_of : Node → Size → Result DisplacementMap Refusal
+displacement_map_of n scale = cond (finite (box_sum scale)) (Ok (displacement_with n (box_sum scale))) (Err Unrepresentable)

@@ -1,9 +1,9 @@
-// feDisplacementMap: a node's attributes to the fields of its kind, or the refusal that it causes. The node is given by its offset in the sheet; `scale` is
-// the size of the object's box in box units, and else 1 by 1.
+// feDisplacementMap: a node's attributes to the fields of its kind, or the refusal that it causes. `scale` is the
+// size of the object's box in box units, and else 1 by 1.
 #![tactic(auto)]
 
 ghost use Rattle.std.specs.Prelude.{◌≡◌};
-ghost use Rattle.svgtree.specs.Parse.{node_from};
+ghost use Rattle.svgtree.specs.Nodes.{node_of};
 ghost use Rattle.svgtree.specs.Readers.{text_of};
 ghost use Rattle.fe_displacement_map.specs.DisplacementMap.{channel_of, displacement_with, displacement_map_of};
 
@@ -12,52 +12,43 @@ use fe::{is_word, number_or};
 use geom::Size;
 use names::aid;
 use num::is_finite;
-use svgtree::text_of;
+use svgtree::SvgNode;
 use tree::{ColorChannel, DisplacementMap};
 
-// A box whose width + height is not finite is refused.
-#[derive(Clone, Copy)]
-pub enum MaybeDisplacementMap {
-    Is(DisplacementMap),
-    Refused(Refusal),
-}
-
-fn parse_channel(s: &[u8], at: u16, id: u16) -> ColorChannel
-    ensures { result ≡ channel_of (text_of (node_from s.now at) id) }
+#[tactic(auto, unfolding(fe::specs::Keywords::keyword))]
+fn parse_channel(node: SvgNode<'_>, id: u16) -> ColorChannel
+    ensures { result ≡ channel_of (text_of (node_of node.entry) id) }
 {
-    let t = text_of(s, at, id);
-    if is_word(s, t, b"R") {
-        return ColorChannel::R;
+    let t = node.attribute(id);
+    if is_word(node.bytes, t, b"R") {
+        ColorChannel::R
+    } else if is_word(node.bytes, t, b"G") {
+        ColorChannel::G
+    } else if is_word(node.bytes, t, b"B") {
+        ColorChannel::B
+    } else {
+        ColorChannel::A
     }
-    if is_word(s, t, b"G") {
-        return ColorChannel::G;
-    }
-    if is_word(s, t, b"B") {
-        return ColorChannel::B;
-    }
-    ColorChannel::A
 }
 
 // `sum` is width + height.
-fn displacement_map(s: &[u8], at: u16, sum: f32) -> DisplacementMap
-    ensures { result ≡ displacement_with (node_from s.now at) sum }
+fn displacement_map(node: SvgNode<'_>, sum: f32) -> DisplacementMap
+    ensures { result ≡ displacement_with (node_of node.entry) sum }
 {
-    let scale = number_or(s, at, aid::SCALE, 0.0);
-    let x = parse_channel(s, at, aid::X_CHANNEL_SELECTOR);
-    let y = parse_channel(s, at, aid::Y_CHANNEL_SELECTOR);
     DisplacementMap {
-        scale: scale * (sum / 2.0),
-        x_channel_selector: x,
-        y_channel_selector: y,
+        scale: number_or(node, aid::SCALE, 0.0) * (sum / 2.0),
+        x_channel_selector: parse_channel(node, aid::X_CHANNEL_SELECTOR),
+        y_channel_selector: parse_channel(node, aid::Y_CHANNEL_SELECTOR),
     }
 }
 
-pub fn convert_displacement_map(s: &[u8], at: u16, scale: Size) -> MaybeDisplacementMap
-    ensures { result ≡ displacement_map_of (node_from s.now at) scale }
+pub fn convert_displacement_map(node: SvgNode<'_>, scale: Size) -> Result<DisplacementMap, Refusal>
+    ensures { result ≡ displacement_map_of (node_of node.entry) scale }
 {
     let sum = scale.width + scale.height;
     if is_finite(sum) {
-        return MaybeDisplacementMap::Is(displacement_map(s, at, sum));
+        Ok(displacement_map(node, sum))
+    } else {
+        Err(Refusal::Unrepresentable)
     }
-    MaybeDisplacementMap::Refused(Refusal::Unrepresentable)
 }

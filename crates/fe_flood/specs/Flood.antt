@@ -1,13 +1,11 @@
 -- feFlood, and the flood that stands for a bad light or kernel. Definitions only.
 -- Filter Effects Module Level 1, feFlood: `flood-color` is black where absent, `flood-opacity` 1.
-use Rattle.std.specs.Prelude.{ℕ, pos, Float}
+use Rattle.std.specs.Prelude.{ℕ, pos, Float, None, Option, Some}
 use Rattle.std.specs.Float.{binary32}
 use Rattle.std.specs.Float.Ieee.{of_bits, of_int, mul, div}
 use Rattle.names.specs.Ids.{aid_flood_color, aid_flood_opacity}
 use Rattle.num.specs.Constants.{plus_zero, one}
 use Rattle.svgtree.specs.declared.Color.{Color}
-use Rattle.svgtree.specs.declared.MaybeColor.{MaybeColor}
-use Rattle.svgtree.specs.declared.MaybeColor.TheVariants.{Is, No}
 use Rattle.svgtree.specs.Values.{Node}
 use Rattle.svgtree.specs.Readers.{color_of}
 use Rattle.tree.specs.declared.Flood.{Flood}
@@ -18,9 +16,9 @@ use Rattle.fe_flood.specs.declared.SplitColor.{SplitColor}
 abbrev pub opaque_black : Color
 opaque_black = record { red = 0; green = 0; blue = 0; alpha = 255 }
 
-abbrev pub or_black : MaybeColor → Color
-or_black (Is c) = c
-or_black No = opaque_black
+abbrev pub or_black : Option Color → Color
+or_black (Some c) = c
+or_black None = opaque_black
 
 abbrev pub flood_color : Node → Color
 flood_color n = or_black (color_of n aid_flood_color)

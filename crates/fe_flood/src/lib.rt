@@ -2,12 +2,12 @@
 #![tactic(auto)]
 
 ghost use Rattle.std.specs.Prelude.{◌≡◌};
-ghost use Rattle.svgtree.specs.Parse.{node_from};
+ghost use Rattle.svgtree.specs.Nodes.{node_of};
 ghost use Rattle.fe_flood.specs.Flood.{or_black, split_alpha, flood_of, transparent_black};
 
-use fe::number_or;
+use fe::{number_or, without_alpha};
 use names::aid;
-use svgtree::{MaybeColor, color_of};
+use svgtree::SvgNode;
 use tree::Flood;
 
 // A colour without its alpha, and the opacity that stands for the alpha.
@@ -17,42 +17,34 @@ pub struct SplitColor {
     pub opacity: f32,
 }
 
-fn or_black(c: MaybeColor) -> svgtree::Color
+fn or_black(c: Option<svgtree::Color>) -> svgtree::Color
     ensures { result ≡ or_black c }
 {
-    match c {
-        MaybeColor::Is(v) => v,
-        MaybeColor::No => svgtree::Color {
-            red: 0,
-            green: 0,
-            blue: 0,
-            alpha: 255,
-        },
-    }
+    c.unwrap_or(svgtree::Color {
+        red: 0,
+        green: 0,
+        blue: 0,
+        alpha: 255,
+    })
 }
 
+#[tactic(auto, unfolding(crate::specs::Flood::alpha_opacity))]
 pub fn split_alpha(c: svgtree::Color) -> SplitColor
     ensures { result ≡ split_alpha c }
 {
-    let color = tree::Color {
-        red: c.red,
-        green: c.green,
-        blue: c.blue,
-    };
     SplitColor {
-        color,
+        color: without_alpha(c),
         opacity: (c.alpha as f32) / 255.0,
     }
 }
 
-pub fn convert_flood(s: &[u8], at: u16) -> Flood
-    ensures { result ≡ flood_of (node_from s.now at) }
+pub fn convert_flood(node: SvgNode<'_>) -> Flood
+    ensures { result ≡ flood_of (node_of node.entry) }
 {
-    let c = split_alpha(or_black(color_of(s, at, aid::FLOOD_COLOR)));
-    let color = c.color;
-    let flood_opacity = number_or(s, at, aid::FLOOD_OPACITY, 1.0);
+    let c = split_alpha(or_black(node.attribute(aid::FLOOD_COLOR)));
+    let flood_opacity = number_or(node, aid::FLOOD_OPACITY, 1.0);
     Flood {
-        color,
+        color: c.color,
         opacity: c.opacity * flood_opacity,
     }
 }
@@ -61,13 +53,12 @@ pub fn convert_flood(s: &[u8], at: u16) -> Flood
 pub fn create_dummy_primitive() -> Flood
     ensures { result ≡ transparent_black }
 {
-    let color = tree::Color {
-        red: 0,
-        green: 0,
-        blue: 0,
-    };
     Flood {
-        color,
+        color: tree::Color {
+            red: 0,
+            green: 0,
+            blue: 0,
+        },
         opacity: 0.0,
     }
 }

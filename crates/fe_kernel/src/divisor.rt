@@ -2,29 +2,29 @@
 ghost use Rattle.std.specs.Prelude.{◌≡◌};
 ghost use Rattle.number_list.specs.Lists.{numbers_is};
 ghost use Rattle.num.specs.Constants.{plus_zero};
-ghost use Rattle.svgtree.specs.Parse.{node_from};
+ghost use Rattle.svgtree.specs.Nodes.{node_of};
 ghost use Rattle.fe_kernel.specs.Divisor.{sum_from, default_divisor, divisor_of};
 
 use fe::number_or;
 use names::aid;
 use num::{approx_zero_ulps, round_f32};
 use number_list::{Numbers, after_number, number_from, numbers_len};
+use svgtree::SvgNode;
 
+#[tactic(auto, using(crate::proofs::Sums::sum_next, crate::proofs::Sums::sum_end, number_list::proofs::Lists::walked_first, number_list::proofs::Lists::walked_rest))]
 fn sum(s: &[u8], kernel: Numbers) -> f32
     ensures { result ≡ sum_from plus_zero (numbers_is s.now kernel) }
 {
-    let n = numbers_len(s, kernel);
     let mut total = 0.0;
     let mut from = 0;
-    let mut i: u16 = 0;
-    while i < n {
-        total = total + number_from(s, kernel, i, from);
+    for i in 0..numbers_len(s, kernel) {
+        total += number_from(s, kernel, i, from);
         from = after_number(s, kernel, from);
-        i += 1;
     }
     total
 }
 
+#[tactic(auto, unfolding(crate::specs::Divisor::default_divisor))]
 fn default_divisor(s: &[u8], kernel: Numbers) -> f32
     ensures { result ≡ default_divisor (numbers_is s.now kernel) }
 {
@@ -36,9 +36,8 @@ fn default_divisor(s: &[u8], kernel: Numbers) -> f32
     kernel_sum
 }
 
-pub(crate) fn convert_divisor(s: &[u8], at: u16, kernel: Numbers) -> f32
-    ensures { result ≡ divisor_of (node_from s.now at) (numbers_is s.now kernel) }
+pub(crate) fn convert_divisor(node: SvgNode<'_>, kernel: Numbers) -> f32
+    ensures { result ≡ divisor_of (node_of node.entry) (numbers_is node.entry.bytes.now kernel) }
 {
-    let default = default_divisor(s, kernel);
-    number_or(s, at, aid::DIVISOR, default)
+    number_or(node, aid::DIVISOR, default_divisor(node.bytes, kernel))
 }

@@ -1,5 +1,4 @@
-// feConvolveMatrix: `convert_convolve_matrix` of parser/filter.rs, and a module for each attribute that takes more than reading. A node is given by its
-// offset in the sheet.
+// feConvolveMatrix: `convert_convolve_matrix` of parser/filter.rs, and a module for each attribute that takes more than reading.
 #![tactic(auto)]
 
 pub mod convolve_matrix;

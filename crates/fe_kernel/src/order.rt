@@ -1,12 +1,12 @@
 // The attribute `order`.
 ghost use Rattle.std.specs.Prelude.{◌≡◌};
 ghost use Rattle.svgtree.specs.Means.{try_is};
-ghost use Rattle.svgtree.specs.Parse.{node_from};
+ghost use Rattle.svgtree.specs.Nodes.{node_of};
 ghost use Rattle.fe_kernel.specs.Order.{above_zero, cut_or, both_above, order_of};
 
 use names::aid;
 use num::f64_to_i32;
-use svgtree::{MaybeTries, Try, tries_of};
+use svgtree::{SvgNode, Tries};
 
 // How many columns and rows a kernel has.
 #[derive(Clone, Copy)]
@@ -25,25 +25,20 @@ pub(crate) fn above_zero(x: i32) -> u32
     x as u32
 }
 
-fn cut_or(t: Try, default: u32) -> u32
+fn cut_or(t: Option<u64>, default: u32) -> u32
     ensures { result ≡ cut_or (try_is t) default }
 {
-    match t {
-        Try::Is(bits) => above_zero(f64_to_i32(bits)),
-        Try::No => default,
-    }
+    t.map_or(default, |bits| above_zero(f64_to_i32(bits)))
 }
 
 fn both_above_zero(x: u32, y: u32) -> Order
     ensures { result ≡ both_above x y }
 {
-    if 0 < x {
-        if 0 < y {
-            return Order {
-                columns: x,
-                rows: y,
-            };
-        }
+    if 0 < x && 0 < y {
+        return Order {
+            columns: x,
+            rows: y,
+        };
     }
     Order {
         columns: 3,
@@ -51,18 +46,16 @@ fn both_above_zero(x: u32, y: u32) -> Order
     }
 }
 
-pub(crate) fn convert_order(s: &[u8], at: u16) -> Order
-    ensures { result ≡ order_of (node_from s.now at) }
+#[tactic(auto, unfolding(crate::specs::Order::order_in))]
+pub(crate) fn convert_order(node: SvgNode<'_>) -> Order
+    ensures { result ≡ order_of (node_of node.entry) }
 {
-    let found = tries_of(s, at, aid::ORDER);
-    match found {
-        MaybeTries::Is(t) => {
-            let first = t.first;
-            let second = t.second;
-            let x = cut_or(first, 3);
-            both_above_zero(x, cut_or(second, x))
+    match node.attribute::<Tries>(aid::ORDER) {
+        Some(tries) => {
+            let x = cut_or(tries.first, 3);
+            both_above_zero(x, cut_or(tries.second, x))
         }
-        MaybeTries::No => Order {
+        None => Order {
             columns: 3,
             rows: 3,
         },

@@ -1,5 +1,6 @@
 -- What holds of 0, of 1 and of the numbers of a node's values holds of every number of the light source that the node is; and what holds of the light
 -- source that any child is holds of the first of them. Assumes nothing.
+use Rattle.std.specs.Prelude.{None, Option, Some}
 use Prim.Native.Nat.{ℕ}
 use mathlib.Core.List.{List, [], ◌∷◌}
 use lib.Dec.{eqb}
@@ -15,30 +16,28 @@ use Rattle.tree.specs.declared.LightSource.{LightSource}
 use Rattle.tree.specs.declared.LightSource.TheVariants.{DistantLight, PointLight, SpotLight}
 use Rattle.fe.specs.Attributes.{number_or}
 use Rattle.fe.proofs.Numbers.{ValueHolds, NodeHolds, number_or_lem}
-use Rattle.fe_light.specs.declared.light_source.MaybeLight.{MaybeLight}
-use Rattle.fe_light.specs.declared.light_source.MaybeLight.TheVariants.{Is, No}
-use Rattle.fe_light.specs.LightSource.{distant_light_of, point_light_of, option_of, spot_light_of, light_of, or_later, light_source_of}
+use Rattle.fe_light.specs.LightSource.{distant_light_of, point_light_of, spot_light_of, light_of, or_later, light_source_of}
 use Rattle.fe_light.specs.Ranges.{option_numbers, light_numbers}
 
-abbrev pub LightHolds : (LightSource → Type 0) → MaybeLight → Type 0
-LightHolds Q (Is l) = Q l
-LightHolds Q No = Unit {0}
+abbrev pub LightHolds : (LightSource → Type 0) → Option LightSource → Type 0
+LightHolds Q (Some l) = Q l
+LightHolds Q None = Unit {0}
 
 -- ---- by the tag
 
 pub light_by_tag : (Q : LightSource → Type 0) (n : Node) → Q (DistantLight (distant_light_of n)) → Q (PointLight (point_light_of n)) → Q (SpotLight (spot_light_of n)) → LightHolds Q (light_of n)
 unfolding light_of
 light_by_tag Q n d p s =
-    choose (LightHolds Q) (eqb n.tag eid_fe_distant_light) (Is (DistantLight (distant_light_of n))) _ d
-    (choose (LightHolds Q) (eqb n.tag eid_fe_point_light) (Is (PointLight (point_light_of n))) _ p
-    (choose (LightHolds Q) (eqb n.tag eid_fe_spot_light) (Is (SpotLight (spot_light_of n))) No s tt))
+    choose (LightHolds Q) (eqb n.tag eid_fe_distant_light) (Some (DistantLight (distant_light_of n))) _ d
+    (choose (LightHolds Q) (eqb n.tag eid_fe_point_light) (Some (PointLight (point_light_of n))) _ p
+    (choose (LightHolds Q) (eqb n.tag eid_fe_spot_light) (Some (SpotLight (spot_light_of n))) None s tt))
 
 -- ---- the first among children
 
 module _ (R : Node → Type 0) (Q : LightSource → Type 0) (child : (n : Node) → R n → LightHolds Q (light_of n)) where
-  later_holds : (x y : MaybeLight) → LightHolds Q x → LightHolds Q y → LightHolds Q (or_later x y)
-  later_holds (Is l) y h k = h
-  later_holds No y h k = k
+  later_holds : (x y : Option LightSource) → LightHolds Q x → LightHolds Q y → LightHolds Q (or_later x y)
+  later_holds (Some l) y h k = h
+  later_holds None y h k = k
 
   pub first_holds : (children : List Node) → Each R children → LightHolds Q (light_source_of children)
   unfolding light_source_of
@@ -48,7 +47,7 @@ module _ (R : Node → Type 0) (Q : LightSource → Type 0) (child : (n : Node) 
 -- ---- the numbers
 
 module _ (P : Float → Type 0) where
-  option_holds : (v : Value) → ValueHolds P v → Each P (option_numbers (option_of (number_in v)))
+  option_holds : (v : Value) → ValueHolds P v → Each P (option_numbers (number_in v))
   unfolding number_in
   option_holds absent h = tt
   option_holds (text_value t) h = tt

@@ -1,4 +1,6 @@
 -- The ranges of lighting hold of every node and its children. Assumes nothing.
+use Rattle.tree.specs.declared.LightSource.{LightSource}
+use Rattle.std.specs.Prelude.{None, Option, Some}
 use mathlib.Core.Path.{◌≡◌, refl, sym, subst}
 use mathlib.Core.Bool.{Bool, true, false, cond}
 use mathlib.Core.List.{List}
@@ -15,9 +17,6 @@ use Rattle.svgtree.specs.Values.{Node}
 use Rattle.tree.specs.declared.SpecularLighting.{SpecularLighting}
 use Rattle.fe.specs.Attributes.{number_or}
 use Rattle.fe.proofs.Numbers.{node_finite, number_or_finite, one_finite, or_positive}
-use Rattle.fe_light.specs.declared.light_source.MaybeLight.{MaybeLight}
-use Rattle.fe_light.specs.declared.light_source.MaybeLight.TheVariants as light
-use Rattle.fe_light.specs.declared.specular_lighting.MaybeSpecularLighting.TheVariants as specular
 use Rattle.fe_light.specs.LightSource.{light_of, light_source_of}
 use Rattle.fe_light.specs.LightingColor.{lighting_color_of}
 use Rattle.fe_light.specs.DiffuseLighting.{diffuse_with, diffuse_lighting_of}
@@ -47,15 +46,15 @@ light_source_ok children = first_holds (λ n. Unit {0}) LightRange (λ n u. ligh
 one_or : (n : Node) (id : ℕ) → IsFinite (number_or n id one)
 one_or n id = number_or_finite n id one one_finite
 
-with_diffuse : (n : Node) (x : MaybeLight) → LightHolds LightRange x → DiffuseOk (diffuse_with n x)
-with_diffuse n (light.Is l) h = record { numbers = one_or n aid_surface_scale and one_or n aid_diffuse_constant and h.numbers; spot = h.spot }
-with_diffuse n light.No h = tt
+with_diffuse : (n : Node) (x : Option LightSource) → LightHolds LightRange x → DiffuseOk (diffuse_with n x)
+with_diffuse n (Some l) h = record { numbers = one_or n aid_surface_scale and one_or n aid_diffuse_constant and h.numbers; spot = h.spot }
+with_diffuse n None h = tt
 
 pub diffuse_ok : (n : Node) (children : List Node) → DiffuseOk (diffuse_lighting_of n children)
 diffuse_ok n children = with_diffuse n (light_source_of children) (light_source_ok children)
 
-with_specular : (n : Node) (x : MaybeLight) → LightHolds LightRange x → SpecularOk (specular_with n x)
-with_specular n (light.Is l) h = go (exponent_in_range (number_or n aid_specular_exponent one)) refl
+with_specular : (n : Node) (x : Option LightSource) → LightHolds LightRange x → SpecularOk (specular_with n x)
+with_specular n (Some l) h = go (exponent_in_range (number_or n aid_specular_exponent one)) refl
   where
     value : SpecularLighting
     value =
@@ -67,7 +66,7 @@ with_specular n (light.Is l) h = go (exponent_in_range (number_or n aid_specular
           light_source = l;
         }
 
-    go : (b : Bool) → exponent_in_range (number_or n aid_specular_exponent one) ≡ b → SpecularOk (cond b (specular.Is value) specular.No)
+    go : (b : Bool) → exponent_in_range (number_or n aid_specular_exponent one) ≡ b → SpecularOk (cond b (Some value) None)
     go true e =
         record {
           numbers = one_or n aid_surface_scale and one_or n aid_specular_constant and one_or n aid_specular_exponent and h.numbers;
@@ -75,7 +74,7 @@ with_specular n (light.Is l) h = go (exponent_in_range (number_or n aid_specular
           spot = h.spot;
         }
     go false e = tt
-with_specular n light.No h = tt
+with_specular n None h = tt
 
 pub specular_ok : (n : Node) (children : List Node) → SpecularOk (specular_lighting_of n children)
 specular_ok n children = with_specular n (light_source_of children) (light_source_ok children)

@@ -1,21 +1,16 @@
 -- Light sources: feDistantLight, fePointLight and feSpotLight of the W3C document Filter Effects Module Level 1. Definitions only.
-use Rattle.std.specs.Prelude.{cond, List, [], ◌∷◌, eqb, Float}
+use Rattle.tree.specs.declared.LightSource.{LightSource}
+use Rattle.std.specs.Prelude.{cond, List, [], ◌∷◌, eqb, Float, None, Option, Some}
 use Rattle.num.specs.Constants.{plus_zero, one}
 use Rattle.num.specs.Sign.{positive}
 use Rattle.names.specs.Ids.{eid_fe_distant_light, eid_fe_point_light, eid_fe_spot_light, aid_azimuth, aid_elevation, aid_x, aid_y, aid_z, aid_points_at_x, aid_points_at_y, aid_points_at_z, aid_specular_exponent, aid_limiting_cone_angle}
-use Rattle.svgtree.specs.declared.MaybeNumber.{MaybeNumber}
-use Rattle.svgtree.specs.declared.MaybeNumber.TheVariants as number
 use Rattle.svgtree.specs.Values.{Node}
 use Rattle.svgtree.specs.Readers.{number_of}
 use Rattle.fe.specs.Attributes.{number_or}
-use Rattle.tree.specs.declared.OptionF32.{OptionF32}
-use Rattle.tree.specs.declared.OptionF32.TheVariants as option
 use Rattle.tree.specs.declared.DistantLight.{DistantLight as DistantLightFields}
 use Rattle.tree.specs.declared.PointLight.{PointLight as PointLightFields}
 use Rattle.tree.specs.declared.SpotLight.{SpotLight as SpotLightFields}
 use Rattle.tree.specs.declared.LightSource.TheVariants.{DistantLight, PointLight, SpotLight}
-use Rattle.fe_light.specs.declared.light_source.MaybeLight.{MaybeLight}
-use Rattle.fe_light.specs.declared.light_source.MaybeLight.TheVariants.{Is, No}
 
 -- feDistantLight: the direction of the light as two angles, each 0 where it is absent
 abbrev pub distant_light_of : Node → DistantLightFields
@@ -31,11 +26,6 @@ point_light_of n = record { x = number_or n aid_x plus_zero; y = number_or n aid
 abbrev pub spot_exponent_of : Node → Float
 spot_exponent_of n = cond (positive (number_or n aid_specular_exponent one)) (number_or n aid_specular_exponent one) one
 
--- a number that may be absent
-abbrev pub option_of : MaybeNumber → OptionF32
-option_of (number.Is x) = option.Some x
-option_of number.No = option.None
-
 -- feSpotLight: the place of the light and the place it points at, each coordinate 0 where it is absent, and the angle of the cone that limits
 -- the light: none where it is absent. As for fePointLight the crate takes the coordinates as they are.
 abbrev pub spot_light_of : Node → SpotLightFields
@@ -48,22 +38,22 @@ spot_light_of n =
       points_at_y = number_or n aid_points_at_y plus_zero;
       points_at_z = number_or n aid_points_at_z plus_zero;
       specular_exponent = spot_exponent_of n;
-      limiting_cone_angle = option_of (number_of n aid_limiting_cone_angle);
+      limiting_cone_angle = number_of n aid_limiting_cone_angle;
     }
 
 -- the light source that a child is, by its tag
-unfoldable pub light_of : Node → MaybeLight
+unfoldable pub light_of : Node → Option LightSource
 light_of n =
-    cond (eqb n.tag eid_fe_distant_light) (Is (DistantLight (distant_light_of n)))
-    (cond (eqb n.tag eid_fe_point_light) (Is (PointLight (point_light_of n)))
-    (cond (eqb n.tag eid_fe_spot_light) (Is (SpotLight (spot_light_of n))) No))
+    cond (eqb n.tag eid_fe_distant_light) (Some (DistantLight (distant_light_of n)))
+    (cond (eqb n.tag eid_fe_point_light) (Some (PointLight (point_light_of n)))
+    (cond (eqb n.tag eid_fe_spot_light) (Some (SpotLight (spot_light_of n))) None))
 
-abbrev pub or_later : MaybeLight → MaybeLight → MaybeLight
-or_later (Is l) later = Is l
-or_later No later = later
+abbrev pub or_later : Option LightSource → Option LightSource → Option LightSource
+or_later (Some l) later = Some l
+or_later None later = later
 
 -- the light source of a lighting element: the first among its children. The document: exactly one child is a light source. The crate: the first counts, and
 -- where there is none the transparent black flood stands for the element.
-unfoldable pub light_source_of : List Node → MaybeLight
-light_source_of [] = No
+unfoldable pub light_source_of : List Node → Option LightSource
+light_source_of [] = None
 light_source_of (n ∷ rest) = or_later (light_of n) (light_source_of rest)

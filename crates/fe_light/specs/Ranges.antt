@@ -1,9 +1,7 @@
 -- What holds of every value that the definitions of lighting give: document 01, "Ranges", and that every number is finite. Definitions only.
-use Rattle.std.specs.Prelude.{Bool, true, List, [], ◌∷◌, T, Float}
+use Rattle.std.specs.Prelude.{Bool, true, List, [], ◌∷◌, T, Float, None, Option, Some}
 use Rattle.num.specs.Numbers.{IsFinite, Each}
 use Rattle.num.specs.Sign.{positive}
-use Rattle.tree.specs.declared.OptionF32.{OptionF32}
-use Rattle.tree.specs.declared.OptionF32.TheVariants.{None, Some}
 use Rattle.tree.specs.declared.LightSource.{LightSource}
 use Rattle.tree.specs.declared.LightSource.TheVariants.{DistantLight, PointLight, SpotLight}
 use Rattle.tree.specs.declared.DiffuseLighting.{DiffuseLighting}
@@ -12,7 +10,7 @@ use Rattle.fe_light.specs.SpecularLighting.{exponent_in_range}
 
 -- the f32 that are written for a value, in their order
 
-abbrev pub option_numbers : OptionF32 → List Float
+abbrev pub option_numbers : Option Float → List Float
 option_numbers None = []
 option_numbers (Some x) = x ∷ []
 

@@ -1,5 +1,4 @@
-// The lighting elements and their light sources: the `convert_*` functions of parser/filter.rs. A node is given by its offset in the sheet, and an
-// element's children are the n nodes after node i.
+// The lighting elements and their light sources: the `convert_*` functions of parser/filter.rs.
 #![tactic(auto)]
 
 pub mod diffuse_lighting;

@@ -1,42 +1,39 @@
 // lighting-color, which both elements have.
 ghost use Rattle.std.specs.Prelude.{◌≡◌};
-ghost use Rattle.svgtree.specs.Parse.{node_from};
+ghost use Rattle.svgtree.specs.Nodes.{node_of};
 ghost use Rattle.fe_light.specs.LightingColor.{opaque_or, lighting_color_of};
 
-use fe::is_word;
+use fe::{is_word, without_alpha};
 use names::aid;
-use svgtree::{MaybeColor, color_of, text_of};
+use svgtree::SvgNode;
 use tree::Color;
 
 // The source's `split_alpha().0`.
-fn opaque_or(color: MaybeColor, default: Color) -> Color
+fn opaque_or(color: Option<svgtree::Color>, default: Color) -> Color
     ensures { result ≡ opaque_or color default }
 {
-    match color {
-        MaybeColor::Is(c) => Color {
-            red: c.red,
-            green: c.green,
-            blue: c.blue,
-        },
-        MaybeColor::No => default,
-    }
+    color.map_or(default, without_alpha)
 }
 
-pub(crate) fn convert_lighting_color(s: &[u8], at: u16) -> Color
-    ensures { result ≡ lighting_color_of (node_from s.now at) }
+pub(crate) fn convert_lighting_color(node: SvgNode<'_>) -> Color
+    ensures { result ≡ lighting_color_of (node_of node.entry) }
 {
-    if is_word(s, text_of(s, at, aid::LIGHTING_COLOR), b"currentColor") {
+    if is_word(
+        node.bytes,
+        node.attribute(aid::LIGHTING_COLOR),
+        b"currentColor",
+    ) {
         let black = Color {
             red: 0,
             green: 0,
             blue: 0,
         };
-        return opaque_or(color_of(s, at, aid::COLOR), black);
+        return opaque_or(node.attribute(aid::COLOR), black);
     }
     let white = Color {
         red: 255,
         green: 255,
         blue: 255,
     };
-    opaque_or(color_of(s, at, aid::LIGHTING_COLOR), white)
+    opaque_or(node.attribute(aid::LIGHTING_COLOR), white)
 }

@@ -1,5 +1,5 @@
 -- A case of `radius` that is refused, found by computing.
-use Rattle.std.specs.Prelude.{◌≡◌, refl, [], ◌∷◌, Float}
+use Rattle.std.specs.Prelude.{◌≡◌, refl, [], ◌∷◌, Float, Err}
 use Rattle.std.specs.Float.{binary32}
 use Rattle.std.specs.Float.Ieee.{of_bits, to_bits, mul, le, round}
 use Rattle.answer.specs.declared.Refusal.TheVariants.{Unrepresentable}
@@ -11,7 +11,6 @@ use Rattle.svgtree.specs.Values.{Node, numbers_value}
 use Rattle.svgtree.specs.Readers.{value_under, numbers_in, text_in}
 use Rattle.fe.specs.Keywords.{keyword}
 use Rattle.fe.specs.Pairs.{pair_in, signs_clear, if_positive}
-use Rattle.fe_morphology.specs.declared.MaybeMorphology.TheVariants as morphology
 use Rattle.fe_morphology.specs.Morphology.{one_for_zero, morphology_of}
 
 abbrev five : Float
@@ -22,6 +21,6 @@ abbrev radius_five : Node
 radius_five = record { depth = 0; tag = eid_fe_morphology; font_size = plus_zero; attributes = record { id = aid_radius; value = numbers_value (five ∷ []) } ∷ [] }
 
 -- a product that is not finite
-pub radius_refused : morphology_of radius_five (record { width = largest; height = one }) ≡ morphology.Refused Unrepresentable
+pub radius_refused : morphology_of radius_five (record { width = largest; height = one }) ≡ Err Unrepresentable
 unfolding value_under numbers_in text_in or_zero keyword pair_in one_for_zero signs_clear if_positive mul le round to_bits of_bits
 radius_refused = refl

@@ -1,7 +1,8 @@
 -- feMorphology. Definitions only.
 -- Filter Effects Module Level 1, feMorphology: `operator` is erode, or dilate; `radius` is one number, or one for each axis.
-use Rattle.std.specs.Prelude.{cond, List, [], ◌∷◌, Float}
-use Rattle.std.proofs.Math.Option.{Option, none, some}
+use Rattle.answer.specs.declared.Refusal.{Refusal}
+use Rattle.tree.specs.declared.Morphology.{Morphology}
+use Rattle.std.specs.Prelude.{cond, List, [], ◌∷◌, Float, Err, None, Ok, Option, Result, Some}
 use Rattle.std.specs.Float.{binary32}
 use Rattle.std.specs.Float.Ieee.{mul}
 use Rattle.answer.specs.declared.Refusal.TheVariants.{Unrepresentable}
@@ -15,10 +16,6 @@ use Rattle.tree.specs.declared.MorphologyOperator.{MorphologyOperator}
 use Rattle.tree.specs.declared.MorphologyOperator.TheVariants.{Erode, Dilate}
 use Rattle.fe.specs.Keywords.{◌means◌, keyword}
 use Rattle.fe.specs.declared.pair.Pair.{Pair}
-use Rattle.fe.specs.declared.pair.MaybePair.{MaybePair}
-use Rattle.fe.specs.declared.pair.MaybePair.TheVariants as maybe-pair
-use Rattle.fe_morphology.specs.declared.MaybeMorphology.{MaybeMorphology}
-use Rattle.fe_morphology.specs.declared.MaybeMorphology.TheVariants.{Is, Refused}
 use Rattle.fe.specs.Pairs.{pair_of, pair_in, signs_clear, if_positive}
 
 -- `erode` where `operator` is absent, and for every text but `dilate`
@@ -41,17 +38,17 @@ scaled_radius p scale = pair_of (mul binary32 p.x scale.width) (mul binary32 p.y
 
 -- The document: a negative radius disables the effect. The crate: a sign that is set makes both radii 1. Where neither is set, "a radius
 -- product isn't finite (the crate panics)" is a refusal.
-abbrev pub radius_from : Pair → Size → MaybePair
-radius_from p scale = cond (signs_clear p) (if_positive (scaled_radius p scale)) (maybe-pair.Is (unit_radius scale))
+abbrev pub radius_from : Pair → Size → Option Pair
+radius_from p scale = cond (signs_clear p) (if_positive (scaled_radius p scale)) (Some (unit_radius scale))
 
 -- The document: `radius` is 0 where absent, which disables the effect. The crate: 1 on both axes, scaled.
-abbrev pub radius_of : Option (List Float) → Size → MaybePair
-radius_of none scale = maybe-pair.Is (unit_radius scale)
-radius_of (some xs) scale = radius_from (ones_for_zeros (pair_in xs)) scale
+abbrev pub radius_of : Option (List Float) → Size → Option Pair
+radius_of None scale = Some (unit_radius scale)
+radius_of (Some xs) scale = radius_from (ones_for_zeros (pair_in xs)) scale
 
-abbrev pub morphology_with : MorphologyOperator → MaybePair → MaybeMorphology
-morphology_with operator (maybe-pair.Is p) = Is (record { operator = operator; radius_x = p.x; radius_y = p.y })
-morphology_with operator maybe-pair.No = Refused Unrepresentable
+abbrev pub morphology_with : MorphologyOperator → Option Pair → Result Morphology Refusal
+morphology_with operator (Some p) = Ok (record { operator = operator; radius_x = p.x; radius_y = p.y })
+morphology_with operator None = Err Unrepresentable
 
-abbrev pub morphology_of : Node → Size → MaybeMorphology
+abbrev pub morphology_of : Node → Size → Result Morphology Refusal
 morphology_of n scale = morphology_with (morphology_operator_of n) (radius_of (numbers_of n aid_radius) scale)

@@ -1,9 +1,10 @@
 -- What the proofs carry of an answer that may be a refusal. Definitions only.
-use Rattle.fe_morphology.specs.declared.MaybeMorphology.{MaybeMorphology}
-use Rattle.fe_morphology.specs.declared.MaybeMorphology.TheVariants as morphology
+use Rattle.answer.specs.declared.Refusal.{Refusal}
+use Rattle.tree.specs.declared.Morphology.{Morphology}
+use Rattle.std.specs.Prelude.{Err, Ok, Result}
 use Rattle.fe_morphology.specs.Ranges.{MorphologyRange}
 
 -- the range of what is answered; where it is a refusal there is nothing to say
-abbrev pub MorphologyOk : MaybeMorphology → Type 0
-MorphologyOk (morphology.Is v) = MorphologyRange v
-MorphologyOk (morphology.Refused why) = Unit {0}
+abbrev pub MorphologyOk : Result Morphology Refusal → Type 0
+MorphologyOk (Ok v) = MorphologyRange v
+MorphologyOk (Err why) = Unit {0}

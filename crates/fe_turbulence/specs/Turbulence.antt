@@ -1,8 +1,8 @@
 -- feTurbulence. Definitions only.
 -- Filter Effects Module Level 1, feTurbulence: where absent, `baseFrequency` is 0, `numOctaves` 1, `seed` 0, `stitchTiles` noStitch and `type`
 -- turbulence.
-use Rattle.std.specs.Prelude.{cond, List, [], ◌∷◌, Float}
-use Rattle.std.proofs.Math.Option.{Option, none, some}
+use Rattle.answer.specs.declared.Refusal.{Refusal}
+use Rattle.std.specs.Prelude.{cond, List, [], ◌∷◌, Float, Err, None, Ok, Option, Result, Some}
 use Rattle.std.specs.Float.Ieee.{to_signed}
 use Rattle.answer.specs.declared.Refusal.TheVariants.{BadFrequency}
 use Rattle.bits.specs.Words.{word}
@@ -17,20 +17,16 @@ use Rattle.tree.specs.declared.TurbulenceKind.TheVariants as kind
 use Rattle.fe.specs.Attributes.{number_or, is_word}
 use Rattle.fe.specs.Keywords.{◌means◌, keyword}
 use Rattle.fe.specs.declared.pair.Pair.{Pair}
-use Rattle.fe.specs.declared.pair.MaybePair.{MaybePair}
-use Rattle.fe.specs.declared.pair.MaybePair.TheVariants as maybe-pair
-use Rattle.fe_turbulence.specs.declared.MaybeTurbulence.{MaybeTurbulence}
-use Rattle.fe_turbulence.specs.declared.MaybeTurbulence.TheVariants.{Is, Refused}
 use Rattle.fe.specs.Pairs.{pair_of, pair_in, signs_clear, if_positive}
 
 -- The document: a negative frequency is an error (not certain). The crate: a sign that is set makes both 0. "base frequency positive in sign but not
 -- finite": the crate panics, here it is refusal 7.
-abbrev pub frequency_from : Pair → MaybePair
-frequency_from p = cond (signs_clear p) (if_positive p) (maybe-pair.Is (pair_of plus_zero plus_zero))
+abbrev pub frequency_from : Pair → Option Pair
+frequency_from p = cond (signs_clear p) (if_positive p) (Some (pair_of plus_zero plus_zero))
 
-abbrev pub frequency_of : Option (List Float) → MaybePair
-frequency_of none = maybe-pair.Is (pair_of plus_zero plus_zero)
-frequency_of (some xs) = frequency_from (pair_in xs)
+abbrev pub frequency_of : Option (List Float) → Option Pair
+frequency_of None = Some (pair_of plus_zero plus_zero)
+frequency_of (Some xs) = frequency_from (pair_in xs)
 
 -- `turbulence` where `type` is absent, and for every text but `fractalNoise`
 abbrev pub turbulence_kind_of : Node → TurbulenceKind
@@ -49,9 +45,9 @@ turbulence_fields n p =
       kind = turbulence_kind_of n;
     }
 
-abbrev pub turbulence_with : Node → MaybePair → MaybeTurbulence
-turbulence_with n (maybe-pair.Is p) = Is (turbulence_fields n p)
-turbulence_with n maybe-pair.No = Refused BadFrequency
+abbrev pub turbulence_with : Node → Option Pair → Result Turbulence Refusal
+turbulence_with n (Some p) = Ok (turbulence_fields n p)
+turbulence_with n None = Err BadFrequency
 
-abbrev pub turbulence_of : Node → MaybeTurbulence
+abbrev pub turbulence_of : Node → Result Turbulence Refusal
 turbulence_of n = turbulence_with n (frequency_of (numbers_of n aid_base_frequency))

@@ -1,18 +1,17 @@
--- Laws on zero bytes, one byte after the other. Assumes nothing.
-use Prim.Native.Nat.{ℕ, ◌+◌, ◌-◌, ◌<◌}
-use mathlib.Core.Path.{◌≡◌, ap}
+-- Zero bytes, as a test of each number of a range. Assumes nothing.
+use Prim.Native.Nat.{ℕ, zero, suc, ◌+◌}
+use mathlib.Core.Path.{◌≡◌, refl}
 use mathlib.Core.List.{List}
-use mathlib.Core.Bool.{true, ◌&&◌}
-use lib.Dec.{eqb}
+use mathlib.Core.Bool.{Bool}
 use lib.ListN.{get_or}
+use Rattle.std.specs.List.{list_all, range_with_len}
 use Rattle.bits.specs.Bytes.{bytes_from}
-use Rattle.bits.proofs.Runs.{bytes_from_step, bytes_from_none}
-use Rattle.field_tests.specs.Tests.{all, zeros}
+use Rattle.field_tests.specs.Tests.{all, is_zero, zeros}
 
-pub zeros_step : (s : List ℕ) (at n : ℕ) → 0 < n → zeros (bytes_from s at n) ≡ (eqb (get_or s at 0) 0 && zeros (bytes_from s (at + 1) (n - 1)))
-unfolding all
-zeros_step s at n h = ap zeros (bytes_from_step s at n h)
+abbrev pub zero_at : List ℕ → ℕ → Bool
+zero_at s at = is_zero (get_or s at 0)
 
-pub zeros_none : (s : List ℕ) (at n : ℕ) → n ≡ 0 → zeros (bytes_from s at n) ≡ true
-unfolding all
-zeros_none s at n h = ap zeros (bytes_from_none s at n h)
+pub zeros_ranged : (s : List ℕ) (at n : ℕ) → list_all (zero_at s) (range_with_len at n) ≡ zeros (bytes_from s at n)
+unfolding all bytes_from
+zeros_ranged s at zero = refl
+zeros_ranged s at (suc n) = rw (zeros_ranged s (at + 1) n)

@@ -1,5 +1,5 @@
 // Tests of a field at a place of the bytes: what a sheet's layout, its numbers and a function record have in common.
-#![tactic(auto)]
+#![tactic(auto, using(crate::proofs::Finiteness::taken))]
 
 ghost use Rattle.std.specs.Prelude.{◌≡◌, ◌^◌, ◌<◌};
 ghost use Rattle.std.specs.Float.Ieee.Scale.{finite};
@@ -11,39 +11,25 @@ ghost use Rattle.field_tests.specs.Tests.{zeros, marked_ok, double_ok};
 
 use bits::{byte, get32, get64};
 use geom::{is_valid_length, is_view_box_length};
-use num::{Number, is_sign_negative, take_number, take_single};
+use num::{is_sign_negative, take_number, take_single};
 
-// Bytes.
+// Bytes. A field is a place and a length. No slices: a field may reach past the lent bytes, where zeros are read, and no caller has to rule that out.
 
 // Whether n bytes from a place on are zero.
 pub fn is_zero(s: &[u8], from: usize, n: u8) -> bool
     requires { from < 2 ^ 40 }
     ensures { result ≡ zeros (bytes_from s.now from n) }
 {
-    let mut at = from;
-    let mut left = n;
-    while 0 < left {
-        if byte(s, at) != 0 {
-            return false;
-        }
-        at += 1;
-        left -= 1;
-    }
-    true
+    (from..from + usize::from(n)).all(|at| byte(s, at) == 0)
 }
 
 // A mark, and the n bytes that are zero where it says absent.
+#[tactic(auto, unfolding(crate::specs::Tests::marked_ok))]
 pub fn marked_ok(s: &[u8], mark: u8, from: usize, n: u8) -> bool
     requires { from < 2 ^ 40 }
     ensures { result ≡ marked_ok mark (bytes_from s.now from n) }
 {
-    if mark == 1 {
-        return true;
-    }
-    if mark != 0 {
-        return false;
-    }
-    is_zero(s, from, n)
+    mark == 1 || (mark == 0 && is_zero(s, from, n))
 }
 
 // Numbers.
@@ -51,74 +37,43 @@ pub fn marked_ok(s: &[u8], mark: u8, from: usize, n: u8) -> bool
 pub fn is_finite_at(s: &[u8], at: usize) -> bool
     ensures { result ≡ finite (single s.now at) }
 {
-    let x = take_single(get32(s, at));
-    match x {
-        Number::Finite(_) => true,
-        Number::Not => false,
-    }
+    take_single(get32(s, at)).is_some()
 }
 
 pub fn is_double_at(s: &[u8], at: usize) -> bool
     ensures { result ≡ double_ok (double s.now at) }
 {
-    let x = take_number(get64(s, at));
-    match x {
-        Number::Finite(_) => true,
-        Number::Not => false,
-    }
+    take_number(get64(s, at)).is_some()
 }
 
 pub fn is_positive_at(s: &[u8], at: usize) -> bool
     ensures { result ≡ positive (single s.now at) }
 {
-    let x = take_single(get32(s, at));
-    match x {
-        Number::Finite(n) => 0.0 <= n,
-        Number::Not => false,
-    }
+    take_single(get32(s, at)).is_some_and(|x| 0.0 <= x)
 }
 
 pub fn is_view_box_length_at(s: &[u8], at: usize) -> bool
     ensures { result ≡ view_box_length (single s.now at) }
 {
-    let x = take_single(get32(s, at));
-    match x {
-        Number::Finite(n) => is_view_box_length(n),
-        Number::Not => false,
-    }
+    take_single(get32(s, at)).is_some_and(is_view_box_length)
 }
 
 pub fn is_valid_length_at(s: &[u8], at: usize) -> bool
     ensures { result ≡ valid_length (single s.now at) }
 {
-    let x = take_single(get32(s, at));
-    match x {
-        Number::Finite(n) => is_valid_length(n),
-        Number::Not => false,
-    }
+    take_single(get32(s, at)).is_some_and(is_valid_length)
 }
 
 // Whether a number lies from 0 to 1 and is not -0.
+#[tactic(auto, unfolding(num::specs::Sign::opacity_in))]
 fn is_opacity(x: f32) -> bool
     ensures { result ≡ opacity_in x }
 {
-    if 0.0 <= x {
-        if x <= 1.0 {
-            !is_sign_negative(x)
-        } else {
-            false
-        }
-    } else {
-        false
-    }
+    0.0 <= x && x <= 1.0 && !is_sign_negative(x)
 }
 
 pub fn is_opacity_at(s: &[u8], at: usize) -> bool
     ensures { result ≡ opacity_in (single s.now at) }
 {
-    let x = take_single(get32(s, at));
-    match x {
-        Number::Finite(n) => is_opacity(n),
-        Number::Not => false,
-    }
+    take_single(get32(s, at)).is_some_and(is_opacity)
 }

@@ -4,48 +4,38 @@
 
 ghost use Rattle.std.specs.Prelude.{◌≡◌};
 ghost use Rattle.std.specs.Float.{binary64};
-ghost use Rattle.std.specs.Float.Ieee.{of_bits, lt};
+ghost use Rattle.std.specs.Float.Ieee.{of_bits};
 ghost use Rattle.num.specs.Constants.{plus_zero as zero};
 ghost use Rattle.num.specs.Narrowed.{as_f32};
 ghost use Rattle.tree.specs.declared.TransferFunction.TheVariants.{Linear};
-ghost use Rattle.function_amounts.specs.Amounts.{one64, held, positive_or_zero, grayscale_matrix, sepia_matrix, invert_table, opacity_table, contrast_intercept};
+ghost use Rattle.function_amounts.specs.Amounts.{held, positive_or_zero, grayscale_matrix, sepia_matrix, invert_table, opacity_table, contrast_intercept};
 
 use num::{double_narrowed, is_positive};
+use std::num::f64_from_bits_with_nan;
 use tree::TransferFunction;
 
 // Amounts.
 
-// A NaN, whose patterns lie above the infinity's, is not above 1.
-fn is_above_one(bits: u64) -> bool
-    ensures { result ≡ lt one64 (of_bits binary64 bits) }
-{
-    if bits % 0x8000_0000_0000_0000 <= 0x7ff0_0000_0000_0000 {
-        return 1.0 < f64::from_bits(bits);
-    }
-    false
-}
-
-// The crate's `amount.min(1.0) as f32`: held in f64, narrowed then.
+// The crate's `amount.min(1.0) as f32`: held in f64, narrowed then. `f64::min` takes a NaN to 1; here a NaN is read as 0.
 fn held_at_one(amount: u64) -> f32
     ensures { result ≡ held (of_bits binary64 amount) }
 {
-    if is_above_one(amount) {
-        return double_narrowed(0x3ff0_0000_0000_0000);
+    if 1.0 < f64_from_bits_with_nan(amount) {
+        1.0
+    } else {
+        double_narrowed(amount)
     }
-    double_narrowed(amount)
 }
 
 // The crate's `PositiveF32::new(x).unwrap_or(PositiveF32::ZERO)`.
+#[tactic(auto, unfolding(crate::specs::Amounts::positive_or_zero))]
 pub fn positive_or_zero(x: f32) -> f32
     ensures { result ≡ positive_or_zero x }
 {
-    if is_positive(x) {
-        return x;
-    }
-    0.0
+    if is_positive(x) { x } else { 0.0 }
 }
 
-// Colour matrices.
+// Colour matrices. Each is written out, as the paper and the source have it: what the two have in common is where the zeros stand.
 
 pub fn convert_grayscale_function(amount: u64) -> [f32; 20]
     ensures { result ≡ grayscale_matrix (held (of_bits binary64 amount)) }
@@ -103,12 +93,14 @@ pub fn convert_sepia_function(amount: u64) -> [f32; 20]
     ]
 }
 
+#[tactic(auto, unfolding(num::specs::Means::double_of))]
 pub fn convert_saturate_function(amount: u64) -> f32
     ensures { result ≡ positive_or_zero (as_f32 (of_bits binary64 amount)) }
 {
     positive_or_zero(double_narrowed(amount))
 }
 
+#[tactic(auto, unfolding(num::specs::Means::double_of))]
 pub fn convert_hue_rotate_function(degrees: u64) -> f32
     ensures { result ≡ as_f32 (of_bits binary64 degrees) }
 {
@@ -117,6 +109,7 @@ pub fn convert_hue_rotate_function(degrees: u64) -> f32
 
 // Transfer functions.
 
+#[tactic(auto, unfolding(crate::specs::Amounts::invert_table))]
 pub fn convert_invert_function(amount: u64) -> [f32; 2]
     ensures { result ≡ invert_table (held (of_bits binary64 amount)) }
 {
@@ -124,12 +117,14 @@ pub fn convert_invert_function(amount: u64) -> [f32; 2]
     [held, 1.0 - held]
 }
 
+#[tactic(auto, unfolding(crate::specs::Amounts::opacity_table))]
 pub fn convert_opacity_function(amount: u64) -> [f32; 2]
     ensures { result ≡ opacity_table (held (of_bits binary64 amount)) }
 {
     [0.0, held_at_one(amount)]
 }
 
+#[tactic(auto, unfolding(num::specs::Means::double_of))]
 pub fn convert_brightness_function(amount: u64) -> TransferFunction
     ensures { result ≡ Linear (as_f32 (of_bits binary64 amount)) zero }
 {

@@ -1,6 +1,6 @@
 -- How many bytes each function's kind is. Assumes nothing.
-use Prim.Native.Nat.{ℕ, ◌<◌}
-use mathlib.Core.Path.{◌≡◌, refl, ap, ◌∙◌}
+use Prim.Native.Nat.{ℕ}
+use mathlib.Core.Path.{◌≡◌, refl}
 use mathlib.Core.List.{List}
 use lib.ListN.{length}
 use Rattle.bits.specs.Bytes.{bytes16, bytes32}
@@ -11,7 +11,6 @@ use Rattle.tree.specs.List.{kind_bytes}
 use Rattle.functions.specs.Records.{Function, FunctionRecord, grayscale, sepia, saturate, hue_rotate, invert, opacity, brightness, contrast, blur, drop_shadow, function_by, code_of, function_record}
 use Rattle.function_amounts.specs.Amounts.{grayscale_matrix, sepia_matrix, invert_table, opacity_table}
 use Rattle.functions.specs.Functions.{kind_by, function_kind}
-use Rattle.functions.proofs.Codes.{by_shadow}
 
 abbrev pub kind_size : Function → ℕ
 kind_size (grayscale x) = 85
@@ -38,10 +37,5 @@ length_kind r (contrast x) = refl
 length_kind r (blur l) = refl
 length_kind r (drop_shadow v) = refl
 
-module _ (s : List ℕ) where
-  -- of a record, by its code
-  pub size_by_lem : (k : ℕ) → code_of s ≡ k → length (kind_bytes (function_kind (function_record s))) ≡ kind_size (function_by k s)
-  size_by_lem k e = length_kind (function_record s) (function_by (code_of s) s) ∙ ap (λ (k : ℕ). kind_size (function_by k s)) e
-
-  pub size_shadow : 8 < code_of s → length (kind_bytes (function_kind (function_record s))) ≡ 25
-  size_shadow h = length_kind (function_record s) (function_by (code_of s) s) ∙ ap kind_size (by_shadow (code_of s) s h)
+pub size_of_record : (s : List ℕ) → length (kind_bytes (function_kind (function_record s))) ≡ kind_size (function_by (code_of s) s)
+size_of_record s = length_kind (function_record s) (function_by (code_of s) s)

@@ -1,10 +1,10 @@
 -- The numbers of every function's kind are in their ranges. Assumes nothing.
+use Rattle.std.specs.Prelude.{None, Some}
 use Prim.Native.Nat.{ℕ, ◌+◌, ◌≤◌, ◌<◌}
 use native.Mathlib.Omega.{arith}
 use mathlib.Core.Path.{refl}
 use mathlib.Core.Bool.{Bool, true, false, cond}
 use mathlib.Core.List.{List}
-use mathlib.Core.Option.{none, some}
 use lib.Dec.{T, leb, eqb, le→leb}
 use lib.ListN.{get_or}
 use lib.Ieee.{Float, of_bits, lt, is_nan}
@@ -17,7 +17,7 @@ use Rattle.num.proofs.Finite.{narrowed_fits, or_zero_finite, or_zero_fits}
 use Rattle.names.specs.Ids.{aid_dx}
 use Rattle.svgtree.specs.Parse.{color_at}
 use Rattle.tree.specs.Kinds.{Matrix}
-use Rattle.units.specs.declared.Units.TheVariants.{UserSpaceOnUse}
+use Rattle.svgtree.specs.declared.Units.TheVariants.{UserSpaceOnUse}
 use Rattle.units.proofs.Lengths.{length_single}
 use Rattle.fe.proofs.Numbers.{made_positive}
 use Rattle.fe_flood.proofs.Opacity.{alpha_ok}
@@ -116,7 +116,7 @@ module _ (s : List ℕ) (bytes : (i : ℕ) → get_or s i 0 < 256) where
   byte_ok : (i : ℕ) → T (leb (get_or s i 0) 255)
   byte_ok i = let h : get_or s i 0 < 256 = bytes i in let k : get_or s i 0 ≤ 255 = omega arith in le→leb (get_or s i 0) 255 k
 
-  alpha_shadow : (b : Bool) → T (leb (color_or (cond b (some (color_at s record_color)) none) (color_at s record_fallback)).alpha 255)
+  alpha_shadow : (b : Bool) → T (leb (color_or (cond b (Some (color_at s record_color)) None) (color_at s record_fallback)).alpha 255)
   alpha_shadow true = byte_ok (record_color + 3)
   alpha_shadow false = byte_ok (record_fallback + 3)
 

@@ -1,7 +1,6 @@
 -- The ten shorthand functions as kinds: the equivalents of the filter functions that Filter Effects Module Level 1 gives, with the numbers
 -- of `function_amounts`. Definitions only.
-use Rattle.std.proofs.Math.Option.{Option, none, some}
-use Rattle.std.specs.Prelude.{Float}
+use Rattle.std.specs.Prelude.{Float, None, Option, Some}
 use Rattle.num.specs.Narrowed.{or_zero, as_f32}
 use Rattle.num.specs.Constants.{plus_zero as zero}
 use Rattle.function_amounts.specs.Amounts.{held, positive_or_zero, grayscale_matrix, sepia_matrix, invert_table, opacity_table, contrast_intercept}
@@ -9,7 +8,7 @@ use Rattle.names.specs.Ids.{aid_dx}
 use Rattle.svgtree.specs.declared.Color.{Color}
 use Rattle.svgtree.specs.declared.Length.{Length}
 use Rattle.units.specs.declared.State.{State}
-use Rattle.units.specs.declared.Units.TheVariants.{UserSpaceOnUse}
+use Rattle.svgtree.specs.declared.Units.TheVariants.{UserSpaceOnUse}
 use Rattle.units.specs.Lengths.{convert_length}
 use Rattle.fe_flood.specs.Flood.{split_alpha}
 use Rattle.tree.specs.Input.{Input, SourceGraphic}
@@ -50,8 +49,8 @@ function_blur r l = record { std_dev_x = deviation_of r l; std_dev_y = deviation
 
 -- the function's own colour, or the fallback
 abbrev pub color_or : Option Color → Color → Color
-color_or (some c) fallback = c
-color_or none fallback = fallback
+color_or (Some c) fallback = c
+color_or None fallback = fallback
 
 abbrev pub function_shadow : FunctionRecord → GivenShadow → DropShadowFields
 function_shadow r v =

@@ -1,7 +1,6 @@
 -- A function record as values, from its bytes: document 01, "A function record". Numbers stand here as they are given, so one may be an infinity or
 -- NaN, and an f64 is not narrowed yet: refusal 3 speaks of these. Past the end of the bytes there are zeros. Definitions only.
-use Rattle.std.specs.Prelude.{ℕ, ◌+◌, cond, List, get_or, eqb, leb, Float}
-use Rattle.std.proofs.Math.Option.{Option, none, some}
+use Rattle.std.specs.Prelude.{ℕ, ◌+◌, cond, List, get_or, eqb, leb, Float, None, Option, Some}
 use Rattle.sheet_fields.specs.Fields.{marked_number}
 use Rattle.svgtree.specs.declared.LengthUnit.{LengthUnit}
 use Rattle.svgtree.specs.declared.Color.{Color}
@@ -72,7 +71,7 @@ abbrev pub given_length_at : List ℕ → ℕ → GivenLength
 given_length_at s at = record { unit = unit_of (get_or s at 0); number = double s (at + marked_number) }
 
 unfoldable pub flagged_color : List ℕ → Option Color
-flagged_color s = cond (eqb (get_or s record_color_flag 0) 1) (some (color_at s record_color)) none
+flagged_color s = cond (eqb (get_or s record_color_flag 0) 1) (Some (color_at s record_color)) None
 
 abbrev pub given_shadow : List ℕ → GivenShadow
 given_shadow s =

@@ -1,13 +1,12 @@
 -- Refusals 2 and 3 of a function record: document 01, "A function record" and "When no list is given". Definitions only.
-use Rattle.std.specs.Prelude.{ℕ, ◌+◌, Bool, true, cond, not, ◌&&◌, List, [], ◌∷◌, get_or, length, eqb, leb, Float}
+use Rattle.answer.specs.declared.Refusal.{Refusal}
+use Rattle.std.specs.Prelude.{ℕ, ◌+◌, Bool, true, cond, not, ◌&&◌, List, [], ◌∷◌, get_or, length, eqb, leb, Float, Err, Ok, Result}
 use Rattle.bits.specs.Bytes.{bytes_from}
 use Rattle.num.specs.Sign.{positive}
 use Rattle.geom.specs.Geometry.{valid_length, view_box_length}
 use Rattle.sheet_fields.specs.Fields.{size_length, size_color, unit_percent}
 use Rattle.field_tests.specs.Tests.{marked_ok, all, double_ok}
 use Rattle.functions.specs.Records.{record_argument, record_color_flag, record_color, record_dx, record_dy, record_std_deviation, Function, FunctionRecord, grayscale, sepia, saturate, hue_rotate, invert, opacity, brightness, contrast, blur, drop_shadow, code_of, function_record}
-use Rattle.answer.specs.declared.Checked.{Checked}
-use Rattle.answer.specs.declared.Checked.TheVariants.{Passed, Refused}
 use Rattle.answer.specs.declared.Refusal.TheVariants.{Malformed, BadNumber}
 
 -- ---- 2, "bytes not in the layout"
@@ -54,7 +53,7 @@ function_numbers_ok r =
 
 -- ---- the first of the two
 
-unfoldable pub function_refusal : List ℕ → Checked
+unfoldable pub function_refusal : List ℕ → Result (Unit {0}) Refusal
 function_refusal s =
-    cond (not (function_layout_ok s)) (Refused Malformed)
-    (cond (not (function_numbers_ok (function_record s))) (Refused BadNumber) Passed)
+    cond (not (function_layout_ok s)) (Err Malformed)
+    (cond (not (function_numbers_ok (function_record s))) (Err BadNumber) (Ok tt))

@@ -1,4 +1,5 @@
 -- What holds of a rectangle that exists: its edges are finite, and its width and height are finite and above zero. Assumes nothing.
+use Rattle.std.specs.Prelude.{None, Option, Some}
 use mathlib.Core.Path.{◌≡◌, subst}
 use mathlib.Core.Bool.{Bool, true, false, ◌&&◌}
 use Prim.Native.Nat.{ℕ}
@@ -12,19 +13,17 @@ use Rattle.num.specs.Numbers.{IsNumber}
 use Rattle.num.proofs.Laws.{finite_num, plus, gap_finite}
 use Rattle.geom.proofs.Gaps.{gap_above}
 use Rattle.geom.specs.declared.Rect.{Rect}
-use Rattle.geom.specs.declared.MaybeRect.{MaybeRect}
-use Rattle.geom.specs.declared.MaybeRect.TheVariants.{Is, No}
 use Rattle.geom.specs.Geometry.{zero_f32, largest, side, pick_rect, is_rect, of_edges, of_size, placed, width_of, height_of}
 
 -- ---- a rectangle that was made exists
 -- what an arm that binds q may say of it
-abbrev pub Made : MaybeRect → Type 0
-Made m = (q : Rect) → m ≡ Is q → T (is_rect q)
+abbrev pub Made : Option Rect → Type 0
+Made m = (q : Rect) → m ≡ Some q → T (is_rect q)
 
 zero_one : ◌≡◌ {A = ℕ} 0 1 → ⊥
 zero_one z = omega arith
 
-picked : (p : Bool) (x : Rect) (P : Rect → Type 0) → (T p → P x) → (q : Rect) → pick_rect p (Is x) No ≡ Is q → P q
+picked : (p : Bool) (x : Rect) (P : Rect → Type 0) → (T p → P x) → (q : Rect) → pick_rect p (Some x) None ≡ Some q → P q
 picked true x P f q e = let i : x ≡ q = cc in subst P i (f tt)
 picked false x P f q e = let z : ◌≡◌ {A = ℕ} 0 1 = cc in absurd (zero_one z)
 
@@ -47,8 +46,8 @@ pub record EdgesFit (r : Rect) : Type 0 where
   pub fits_right : T (fits binary32 r.right)
   pub fits_bottom : T (fits binary32 r.bottom)
 
-abbrev pub Fitted : MaybeRect → Type 0
-Fitted m = (q : Rect) → m ≡ Is q → EdgesFit q
+abbrev pub Fitted : Option Rect → Type 0
+Fitted m = (q : Rect) → m ≡ Some q → EdgesFit q
 
 pub fits_edges : (l t r b : Float) → T (fits binary32 l) → T (fits binary32 t) → T (fits binary32 r) → T (fits binary32 b) → Fitted (of_edges l t r b)
 unfolding of_edges

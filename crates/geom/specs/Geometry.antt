@@ -1,13 +1,11 @@
 -- Rectangles of f32 numbers: which exist, how one is made of a corner and a size, and how one is placed in another. Definitions only.
 -- `add`, `sub` and `mul` at `binary32` are the f32 operations: each gives the exact result rounded once, to nearest, ties to even.
-use Rattle.std.specs.Prelude.{Bool, true, false, ◌&&◌, pos, Float}
+use Rattle.std.specs.Prelude.{Bool, true, false, ◌&&◌, pos, Float, None, Option, Some}
 use Rattle.std.specs.Float.{fin, binary32, binary64}
 use Rattle.std.specs.Float.Ieee.{add, sub, mul, lt}
 use Rattle.std.specs.Float.Ieee.Scale.{finite}
 use Rattle.geom.specs.declared.Rect.{Rect}
 use Rattle.geom.specs.declared.Size.{Size}
-use Rattle.geom.specs.declared.MaybeRect.{MaybeRect}
-use Rattle.geom.specs.declared.MaybeRect.TheVariants.{Is, No}
 
 -- zero, and the largest f32: (2 ^ 24 - 1) * 2 ^ 104
 abbrev pub zero_f32 : Float
@@ -22,7 +20,7 @@ unfoldable pub side : Float → Float → Bool
 side a b = finite a && finite b && lt a b && lt (sub binary64 b a) largest
 
 -- x where the test holds, and else y
-abbrev pub pick_rect : Bool → MaybeRect → MaybeRect → MaybeRect
+abbrev pub pick_rect : Bool → Option Rect → Option Rect → Option Rect
 pick_rect true x y = x
 pick_rect false x y = y
 
@@ -31,13 +29,13 @@ abbrev pub is_rect : Rect → Bool
 is_rect r = side r.left r.right && side r.top r.bottom
 
 -- the rectangle with these edges, if it exists
-unfoldable pub of_edges : Float → Float → Float → Float → MaybeRect
+unfoldable pub of_edges : Float → Float → Float → Float → Option Rect
 of_edges left top right bottom =
     let r : Rect = record { left = left; top = top; right = right; bottom = bottom } in
-    pick_rect (is_rect r) (Is r) No
+    pick_rect (is_rect r) (Some r) None
 
 -- the rectangle with this corner and size, if it exists: its edges are x, y, x + width, y + height, each rounded once
-abbrev pub of_size : Float → Float → Float → Float → MaybeRect
+abbrev pub of_size : Float → Float → Float → Float → Option Rect
 of_size x y width height = of_edges x y (add binary32 x width) (add binary32 y height)
 
 -- the width is right - left, rounded, and not the width that the rectangle was made from; the height likewise
@@ -52,7 +50,7 @@ size_of r = record { width = width_of r; height = height_of r }
 
 -- r placed in b, if there is such a rectangle: x is r's x × b's width + b's x, and the width is r's width × b's width; y and the height likewise, by b's height and y.
 -- Each product and each sum is rounded once, the product before the sum.
-abbrev pub placed : Rect → Rect → MaybeRect
+abbrev pub placed : Rect → Rect → Option Rect
 placed r b =
     of_size
     (add binary32 (mul binary32 r.left (width_of b)) b.left)

@@ -4,6 +4,11 @@
 ghost use Rattle.std.specs.Prelude.{◌≡◌};
 ghost use Rattle.geom.specs.Geometry.{side, of_edges, of_size, width_of, height_of, size_of, placed, valid_length, view_box_length};
 
+use num::is_finite;
+
+// The largest f32.
+const LARGEST: f64 = f32::MAX as f64;
+
 // A rectangle by its edges. Its width and height are not stored: each is one subtraction.
 #[derive(Clone, Copy)]
 pub struct Rect {
@@ -13,13 +18,6 @@ pub struct Rect {
     pub bottom: f32,
 }
 
-// A rectangle, or that there is none with the edges that were asked for.
-#[derive(Clone, Copy)]
-pub enum MaybeRect {
-    Is(Rect),
-    No,
-}
-
 // A width and a height.
 #[derive(Clone, Copy)]
 pub struct Size {
@@ -27,60 +25,49 @@ pub struct Size {
     pub height: f32,
 }
 
-// Whether a side lies between the edges a and b. The number is the largest f32. An infinite edge makes the difference an
-// infinity, which is not below it, and a NaN is below nothing, so the two tests say too that both edges are finite.
+// Whether a side lies between the edges a and b. An infinite edge makes the difference an infinity, which is not below the largest f32, and a NaN is below
+// nothing, so the two tests say too that both edges are finite.
+#[tactic(auto, using(crate::proofs::Sides::side_not_below))]
 pub fn is_side(a: f32, b: f32) -> bool
     ensures { result ≡ side a b }
 {
-    if a < b {
-        let d = (b as f64) - (a as f64);
-        d < 340282346638528859811704183484516925440.0
-    } else {
-        false
-    }
+    a < b && (b as f64) - (a as f64) < LARGEST
 }
 
-// Whether x is a length: above zero and finite, that is, below the infinity.
+// Whether x is a length: above zero and finite.
+#[tactic(auto, unfolding(crate::specs::Geometry::valid_length))]
 pub fn is_valid_length(x: f32) -> bool
     ensures { result ≡ valid_length x }
 {
-    if 0.0 < x {
-        x < f32::from_bits(0x7f80_0000)
-    } else {
-        false
-    }
+    0.0 < x && is_finite(x)
 }
 
 // Whether x may be the width or the height of a view box: a length below the largest f32.
+#[tactic(auto, unfolding(crate::specs::Geometry::valid_length, crate::specs::Geometry::view_box_length))]
 pub fn is_view_box_length(x: f32) -> bool
     ensures { result ≡ view_box_length x }
 {
-    if 0.0 < x {
-        x < 340282346638528859811704183484516925440.0
-    } else {
-        false
-    }
+    is_valid_length(x) && x < f32::MAX
 }
 
 impl Rect {
-    pub fn from_ltrb(left: f32, top: f32, right: f32, bottom: f32) -> MaybeRect
+    #[tactic(auto, unfolding(crate::specs::Geometry::of_edges))]
+    pub fn from_ltrb(left: f32, top: f32, right: f32, bottom: f32) -> Option<Rect>
         ensures { result ≡ of_edges left top right bottom }
     {
-        if is_side(left, right) {
-            if is_side(top, bottom) {
-                return MaybeRect::Is(Rect {
-                    left,
-                    top,
-                    right,
-                    bottom,
-                });
-            }
+        if is_side(left, right) && is_side(top, bottom) {
+            return Some(Rect {
+                left,
+                top,
+                right,
+                bottom,
+            });
         }
-        MaybeRect::No
+        None
     }
 
     // The far edges are sums, each rounded once.
-    pub fn from_xywh(x: f32, y: f32, width: f32, height: f32) -> MaybeRect
+    pub fn from_xywh(x: f32, y: f32, width: f32, height: f32) -> Option<Rect>
         ensures { result ≡ of_size x y width height }
     {
         Rect::from_ltrb(x, y, x + width, y + height)
@@ -122,7 +109,7 @@ impl Rect {
     }
 
     // Places self in bbox. The crate panics where there is no such rectangle; here that is an answer.
-    pub fn bbox_transform(self, bbox: Rect) -> MaybeRect
+    pub fn bbox_transform(self, bbox: Rect) -> Option<Rect>
         ensures { result ≡ placed self bbox }
     {
         let sx = bbox.width();

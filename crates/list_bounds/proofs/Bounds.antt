@@ -1,17 +1,16 @@
 -- The list of an accepted sheet has at most 548,866 bytes, so it fits the output that the header names; its counts and its offsets fit their widths.
 -- Assumes nothing.
+use Rattle.std.specs.Prelude.{Ok}
 use Prim.Native.Nat.{ℕ, ◌≤◌, ◌<◌}
 use native.Mathlib.Omega.{arith}
 use mathlib.Core.Path.{◌≡◌}
 use mathlib.Core.List.{List}
 use lib.ListN.{length, get_or}
 use Rattle.geom.specs.declared.Rect.{Rect}
-use Rattle.answer.specs.declared.Checked.TheVariants.{Passed}
 use Rattle.svgtree.specs.Values.{Node}
 use Rattle.svgtree.specs.Parse.{count_of, nodes_from, header_of, sheet_of}
 use Rattle.tree.specs.List.{list_bytes}
 use Rattle.region.specs.declared.Frame.{Frame}
-use Rattle.region.specs.declared.FilterRegion.TheVariants as region
 use Rattle.region.specs.Region.{filter_region_of, frame_of}
 use Rattle.region.proofs.Regions.{frame_sound}
 use Rattle.sheet_check.specs.Refusals.{first_refusal}
@@ -41,7 +40,7 @@ module _ (f : Frame) (ns : List Node) (few : length ns ≤ 512) (small : nodes_n
 
 -- ---- an accepted sheet, in its own frame
 
-pub accepted_fits : (s : List ℕ) → ((i : ℕ) → get_or s i 0 < 256) → (q : Rect) → first_refusal s ≡ Passed → filter_region_of (header_of s) ≡ region.Is q
+pub accepted_fits : (s : List ℕ) → ((i : ℕ) → get_or s i 0 < 256) → (q : Rect) → first_refusal s ≡ (Ok tt) → filter_region_of (header_of s) ≡ Ok q
     → (cs : List Child) → chain (frame_of (header_of s) q) (sheet_of s).nodes ≡ kept cs → ListFits (primitives cs)
 unfolding sheet_of
 accepted_fits s bytes q accepted placed cs counted =

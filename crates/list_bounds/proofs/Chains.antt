@@ -1,11 +1,17 @@
 -- What varies in the list of a chain's children is paid for by the nodes: an input of a merge by the child that it stands in, the numbers of a kernel and of
 -- tables by the bytes of their attributes. Assumes nothing.
+use Rattle.tree.specs.declared.Turbulence.{Turbulence}
+use Rattle.tree.specs.declared.DisplacementMap.{DisplacementMap}
+use Rattle.answer.specs.declared.Refusal.{Refusal}
+use Rattle.tree.specs.declared.Morphology.{Morphology}
+use Rattle.tree.specs.declared.SpecularLighting.{SpecularLighting}
+use Rattle.tree.specs.declared.DiffuseLighting.{DiffuseLighting}
+use Rattle.std.specs.Prelude.{Err, None, Ok, Option, Result, Some, ℕ}
 use Prim.Native.Nat.{ℕ, ◌+◌, ◌*◌, ◌≤◌}
 use native.Mathlib.Omega.{arith}
 use mathlib.Core.Path.{◌≡◌, refl, subst}
 use mathlib.Core.Bool.{Bool, true, false, cond}
 use mathlib.Core.List.{List, [], ◌∷◌, ◌++◌, map}
-use mathlib.Core.Option.{Option, none, some}
 use lib.Dec.{eqb}
 use lib.ListN.{length, length-map}
 use lib.Ieee.{Float}
@@ -15,8 +21,6 @@ use Rattle.names.specs.Ids as ids
 use Rattle.num.specs.Narrowed.{or_zero}
 use Rattle.num.specs.Sign.{near_zero}
 use Rattle.geom.specs.declared.Rect.{Rect}
-use Rattle.geom.specs.declared.MaybeRect.{MaybeRect}
-use Rattle.geom.specs.declared.MaybeRect.TheVariants as rect
 use Rattle.svgtree.specs.Values.{Value, absent, text_value, number_value, numbers_value, length_value, color_value, tries_value, Attribute, Node}
 use Rattle.svgtree.specs.Readers.{numbers_in, value_under, text_of, number_of, numbers_of, child_nodes}
 use Rattle.tree.specs.Kinds.{TransferFunction, Identity, ConvolveMatrixData, ConvolveMatrixFields}
@@ -27,24 +31,12 @@ use Rattle.child.specs.Child.{Child, in_of}
 use Rattle.fe.specs.Keywords.{keyword}
 use Rattle.fe_color.specs.ComponentTransfer.{or_empty, table_values_of, transfer_function_of, wanted, functions_of, last_or, component_transfer_of}
 use Rattle.fe_kernel.specs.declared.order.Order.{Order}
-use Rattle.fe_kernel.specs.declared.target.MaybeTarget.{MaybeTarget}
-use Rattle.fe_kernel.specs.declared.target.MaybeTarget.TheVariants as target
 use Rattle.fe_kernel.specs.Order.{order_of}
 use Rattle.fe_kernel.specs.Target.{target_of}
 use Rattle.fe_kernel.specs.Divisor.{divisor_of}
 use Rattle.fe_kernel.specs.ConvolveMatrix.{matrix_with, kernel_matrix_of, convolve_with, convolve_of, convolve_matrix_of}
-use Rattle.fe_light.specs.declared.diffuse_lighting.MaybeDiffuseLighting.{MaybeDiffuseLighting}
-use Rattle.fe_light.specs.declared.diffuse_lighting.MaybeDiffuseLighting.TheVariants as diffuse
-use Rattle.fe_light.specs.declared.specular_lighting.MaybeSpecularLighting.{MaybeSpecularLighting}
-use Rattle.fe_light.specs.declared.specular_lighting.MaybeSpecularLighting.TheVariants as specular
 use Rattle.fe_light.specs.DiffuseLighting.{diffuse_lighting_of}
 use Rattle.fe_light.specs.SpecularLighting.{specular_lighting_of}
-use Rattle.fe_morphology.specs.declared.MaybeMorphology.{MaybeMorphology}
-use Rattle.fe_morphology.specs.declared.MaybeMorphology.TheVariants as morphology
-use Rattle.fe_displacement_map.specs.declared.MaybeDisplacementMap.{MaybeDisplacementMap}
-use Rattle.fe_displacement_map.specs.declared.MaybeDisplacementMap.TheVariants as displacement
-use Rattle.fe_turbulence.specs.declared.MaybeTurbulence.{MaybeTurbulence}
-use Rattle.fe_turbulence.specs.declared.MaybeTurbulence.TheVariants as turbulence
 use Rattle.fe_morphology.specs.Morphology.{morphology_of}
 use Rattle.fe_displacement_map.specs.DisplacementMap.{displacement_map_of}
 use Rattle.fe_turbulence.specs.Turbulence.{turbulence_of}
@@ -60,8 +52,8 @@ use Rattle.list_bounds.proofs.Sheets.{value_numbers, attributes_numbers, node_nu
 -- ---- a list of numbers that is read of a node
 
 abbrev ListLong : ℕ → Option (List Float) → Type 0
-ListLong w none = Unit {0}
-ListLong w (some xs) = 4 * length xs ≤ w
+ListLong w None = Unit {0}
+ListLong w (Some xs) = 4 * length xs ≤ w
 
 lookup_long : (id : ℕ) (as' : List Attribute) → value_numbers (value_under id as') ≤ attributes_numbers as'
 unfolding value_under
@@ -92,12 +84,12 @@ choose P true x y p q = p
 choose P false x y p q = q
 
 abbrev FunctionLong : ℕ → Option TransferFunction → Type 0
-FunctionLong w none = Unit {0}
-FunctionLong w (some f) = table_bytes f ≤ w
+FunctionLong w None = Unit {0}
+FunctionLong w (Some f) = table_bytes f ≤ w
 
 table_long : (w : ℕ) (o : Option (List Float)) → ListLong w o → 4 * length (or_empty o) ≤ w
-table_long w none h = omega arith
-table_long w (some xs) h = h
+table_long w None h = omega arith
+table_long w (Some xs) h = h
 
 abbrev typed : Node → List ℕ → Bool
 typed n w = is_word (text_of n ids.aid_type) w
@@ -127,8 +119,8 @@ last_long tag (n ∷ ns) w d h = go (eqb n.tag tag) (transfer_function_of n) (fu
   where
     go : (b : Bool) (o : Option TransferFunction) → FunctionLong (node_numbers n) o → ((w : ℕ) (d : TransferFunction) → table_bytes d ≤ w → table_bytes (last_or d (functions_of tag ns)) ≤ w + tag_numbers tag ns)
         → table_bytes (last_or d (wanted b o ++ functions_of tag ns)) ≤ w + (cond b (node_numbers n) 0 + tag_numbers tag ns)
-    go true (some f) k later = omega (arith, later (w + node_numbers n) f (omega arith))
-    go true none k later = omega (arith, later w d h)
+    go true (Some f) k later = omega (arith, later (w + node_numbers n) f (omega arith))
+    go true None k later = omega (arith, later w d h)
     go false o k later = omega (arith, later w d h)
 
 -- no child has two tags
@@ -167,26 +159,26 @@ transfer_long children =
 -- ---- feConvolveMatrix
 
 abbrev DataLong : ℕ → Option ConvolveMatrixData → Type 0
-DataLong w none = Unit {0}
-DataLong w (some m) = 4 * length m.numbers ≤ w
+DataLong w None = Unit {0}
+DataLong w (Some m) = 4 * length m.numbers ≤ w
 
 abbrev FieldsLong : ℕ → Option ConvolveMatrixFields → Type 0
-FieldsLong w none = Unit {0}
-FieldsLong w (some v) = 4 * length v.matrix.numbers ≤ w
+FieldsLong w None = Unit {0}
+FieldsLong w (Some v) = 4 * length v.matrix.numbers ≤ w
 
-matrix_with_lem : (w : ℕ) (o : Order) (x y : MaybeTarget) (xs : List Float) → 4 * length xs ≤ w → DataLong w (matrix_with o x y xs)
-matrix_with_lem w o (target.Is x) (target.Is y) xs h = choose (DataLong w) (eqb (length xs) (o.columns * o.rows)) _ none h tt
-matrix_with_lem w o (target.Is x) target.No xs h = tt
-matrix_with_lem w o target.No y xs h = tt
+matrix_with_lem : (w : ℕ) (o : Order) (x y : Option ℕ) (xs : List Float) → 4 * length xs ≤ w → DataLong w (matrix_with o x y xs)
+matrix_with_lem w o (Some x) (Some y) xs h = choose (DataLong w) (eqb (length xs) (o.columns * o.rows)) _ None h tt
+matrix_with_lem w o (Some x) None xs h = tt
+matrix_with_lem w o None y xs h = tt
 
 convolve_with_lem : (w : ℕ) (n : Node) (d : Float) (m : Option ConvolveMatrixData) → DataLong w m → FieldsLong w (convolve_with n d m)
-convolve_with_lem w n d none h = tt
-convolve_with_lem w n d (some m) h = h
+convolve_with_lem w n d None h = tt
+convolve_with_lem w n d (Some m) h = h
 
 convolve_of_lem : (w : ℕ) (n : Node) (o : Option (List Float)) → ListLong w o → FieldsLong w (convolve_of n o)
-convolve_of_lem w n none h = tt
-convolve_of_lem w n (some xs) h =
-    choose (FieldsLong w) (near_zero (divisor_of n xs)) none (convolve_with n (divisor_of n xs) (kernel_matrix_of n xs)) tt
+convolve_of_lem w n None h = tt
+convolve_of_lem w n (Some xs) h =
+    choose (FieldsLong w) (near_zero (divisor_of n xs)) None (convolve_with n (divisor_of n xs) (kernel_matrix_of n xs)) tt
     (convolve_with_lem w n (divisor_of n xs) (kernel_matrix_of n xs)
     (matrix_with_lem w (order_of n) (target_of (number_of n ids.aid_target_x) (order_of n).columns) (target_of (number_of n ids.aid_target_y) (order_of n).rows) xs h))
 
@@ -205,28 +197,28 @@ module _ (f : Frame) (n : Node) (children : List Node) where
   nothing = omega arith
 
   convolve_made_lem : (o : Option ConvolveMatrixFields) → FieldsLong (node_numbers n) o → MadeLong paid (convolve_made n o)
-  convolve_made_lem none h = nothing
-  convolve_made_lem (some v) h = omega arith
+  convolve_made_lem None h = nothing
+  convolve_made_lem (Some v) h = omega arith
 
-  diffuse_made_lem : (m : MaybeDiffuseLighting) → MadeLong paid (diffuse_made n m)
-  diffuse_made_lem (diffuse.Is v) = nothing
-  diffuse_made_lem diffuse.No = nothing
+  diffuse_made_lem : (m : Option DiffuseLighting) → MadeLong paid (diffuse_made n m)
+  diffuse_made_lem (Some v) = nothing
+  diffuse_made_lem None = nothing
 
-  specular_made_lem : (m : MaybeSpecularLighting) → MadeLong paid (specular_made n m)
-  specular_made_lem (specular.Is v) = nothing
-  specular_made_lem specular.No = nothing
+  specular_made_lem : (m : Option SpecularLighting) → MadeLong paid (specular_made n m)
+  specular_made_lem (Some v) = nothing
+  specular_made_lem None = nothing
 
-  morphology_made_lem : (m : MaybeMorphology) → MadeLong paid (morphology_made n m)
-  morphology_made_lem (morphology.Is v) = nothing
-  morphology_made_lem (morphology.Refused why) = tt
+  morphology_made_lem : (m : Result Morphology Refusal) → MadeLong paid (morphology_made n m)
+  morphology_made_lem (Ok v) = nothing
+  morphology_made_lem (Err why) = tt
 
-  displacement_made_lem : (m : MaybeDisplacementMap) → MadeLong paid (displacement_made n m)
-  displacement_made_lem (displacement.Is v) = nothing
-  displacement_made_lem (displacement.Refused why) = tt
+  displacement_made_lem : (m : Result DisplacementMap Refusal) → MadeLong paid (displacement_made n m)
+  displacement_made_lem (Ok v) = nothing
+  displacement_made_lem (Err why) = tt
 
-  turbulence_made_lem : (m : MaybeTurbulence) → MadeLong paid (turbulence_made m)
-  turbulence_made_lem (turbulence.Is v) = nothing
-  turbulence_made_lem (turbulence.Refused why) = tt
+  turbulence_made_lem : (m : Result Turbulence Refusal) → MadeLong paid (turbulence_made m)
+  turbulence_made_lem (Ok v) = nothing
+  turbulence_made_lem (Err why) = tt
 
   merge_long : 258 * length (map in_of children) ≤ paid
   merge_long = omega (arith, length-map children in_of)
@@ -317,9 +309,9 @@ abbrev pays : List Node → ℕ
 pays ns = 816 * length ns + nodes_numbers ns
 
 module _ (f : Frame) where
-  region_step_lem : (n : Node) (children : List Node) (m : MaybeRect) → StepLong (paid f n children) (region_step f n children m)
-  region_step_lem n children (rect.Is r) = kind_step_lem (paid f n children) n r (kind_of f n children) (kind_long f n children)
-  region_step_lem n children rect.No = tt
+  region_step_lem : (n : Node) (children : List Node) (m : Option Rect) → StepLong (paid f n children) (region_step f n children m)
+  region_step_lem n children (Some r) = kind_step_lem (paid f n children) n r (kind_of f n children) (kind_long f n children)
+  region_step_lem n children None = tt
 
   -- the step of a node that is no child of the one before
   abbrev tagged_step : Node → List Node → Step

@@ -1,5 +1,6 @@
 -- A list in the layout has at most 2 bytes, and 816 for each primitive with its pair, besides those that vary without a bound of their own: the inputs of a
 -- merge, the numbers of a kernel and of tables. Assumes nothing.
+use Rattle.std.specs.Prelude.{Float, None, Option, Some}
 use Prim.Native.Nat.{ℕ, ◌+◌, ◌*◌, ◌≤◌}
 use native.Mathlib.Omega.{arith}
 use mathlib.Core.Path.{◌≡◌, refl, ap}
@@ -13,8 +14,6 @@ use Rattle.tree.specs.Sizes.{field_size, color_matrix_kind_size, transfer_functi
 use Rattle.tree.specs.Kinds.{ColorMatrixKind, Matrix, Saturate, HueRotate, LuminanceToAlpha, TransferFunction, Identity, Table, Discrete, Linear, Gamma, ComponentTransferFields}
 use Rattle.tree.specs.Kinds.{Kind, Blend, ColorMatrix, ComponentTransfer, Composite, ConvolveMatrix, DiffuseLighting, DisplacementMap, DropShadow, Flood, GaussianBlur, Image, Merge, Morphology, Offset, SpecularLighting, Tile, Turbulence, Primitive, map_kind, Inputs, Nothing, One, Two, Vec, inputs_in, input_list, inputs_of}
 use Rattle.tree.specs.List.{inputs_bytes, kind_bytes, primitive_bytes, primitive_size, list_bytes}
-use Rattle.tree.specs.declared.OptionF32.{OptionF32}
-use Rattle.tree.specs.declared.OptionF32.TheVariants as optional
 use Rattle.tree.specs.declared.CompositeOperator.{CompositeOperator}
 use Rattle.tree.specs.declared.CompositeOperator.TheVariants as composite
 use Rattle.tree.specs.declared.LightSource.{LightSource}
@@ -127,9 +126,9 @@ operator_size composite.Xor = omega arith
 operator_size composite.Lighter = omega arith
 operator_size (composite.Arithmetic k1 k2 k3 k4) = omega arith
 
-option_size_lem : (v : OptionF32) → option_size v ≤ 5
-option_size_lem optional.None = omega arith
-option_size_lem (optional.Some x) = omega arith
+option_size_lem : (v : Option Float) → option_size v ≤ 5
+option_size_lem None = omega arith
+option_size_lem (Some x) = omega arith
 
 light_size : (v : LightSource) → light_source_size v ≤ 34
 light_size (light.DistantLight l) = omega arith

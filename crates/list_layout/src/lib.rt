@@ -1,412 +1,424 @@
-// Which bytes are a list in the layout, in either form. Most functions here take the place where a part of the layout begins and give the place after it;
-// `end` is where the bytes end. Bytes that are outside the layout have no place after them.
-#![tactic(auto)]
+// Which bytes are a list in the layout, in either form. Each `after_` function passes one part of the layout at the front of some bytes and gives the bytes
+// that are left; each `read_` function gives its value too. Bytes that are outside the layout leave nothing: None.
+#![tactic(auto, unfolding(list_read::specs::Layout::layout_of))]
 
-ghost use Rattle.std.specs.Prelude.{◌≡◌, ◌+◌, ◌*◌, ◌-◌, ◌<◌, ◌≤◌};
-ghost use Rattle.bits.specs.Bytes.{bytes_from};
-ghost use Rattle.list_read.specs.Layout.{byte_below, any_bytes, f32s, vec, option, color_matrix_kind, transfer_function, composite_operator, light_source, layout_of};
-ghost use Rattle.list_layout.specs.After.{place_is, after_bytes, after_item, after_field, after_kind_fields, after_text, after_reference, after_input, after_inputs, after_kind_inputs, record_in_layout, records_in_layout, counted_in_layout, in_layout, FirstByte, FirstTwo};
+ghost use Rattle.std.specs.Prelude.{◌≡◌, ◌+◌, ◌*◌, ◌≤◌, ◌<◌, ◌^◌, ◌/◌, length, option_copied, IfSome};
+ghost use Rattle.list_read.specs.Read.{read16, read_below};
+ghost use Rattle.list_read.specs.Layout.{exactly, counted, byte_below, any_bytes, f32s, vec, option, color_matrix_kind, transfer_function, composite_operator, light_source, layout_of};
+ghost use Rattle.list_layout.specs.After.{got_of, after_bytes, after_item, after_field, after_kind_fields, after_text, after_reference, after_input, after_inputs, after_kind_inputs, ended, record_in_layout, records_in_layout, counted_in_layout, in_layout};
+ghost use Rattle.list_layout.specs.Kinds.{place_of, KindAt};
 
 use list_read::ListForm;
 
+// The kinds of primitive that can stand in a list: all but Image.
 #[derive(Clone, Copy)]
-enum Place {
-    At(u32),
-    Outside,
+enum Kind {
+    Blend,
+    ColorMatrix,
+    ComponentTransfer,
+    Composite,
+    ConvolveMatrix,
+    DiffuseLighting,
+    DisplacementMap,
+    DropShadow,
+    Flood,
+    GaussianBlur,
+    Merge,
+    Morphology,
+    Offset,
+    SpecularLighting,
+    Tile,
+    Turbulence,
 }
 
-fn after_bytes(s: &[u8], end: u32, p: Place, n: u32) -> Place
-    ensures { place_is s.now end result ≡ after_bytes n (place_is s.now end p) }
-{
-    match p {
-        Place::At(at) => {
-            if end < at {
-                return Place::Outside;
-            }
-            if end - at < n {
-                return Place::Outside;
-            }
-            Place::At(at + n)
+// A byte that is the place of no such kind.
+#[derive(Clone, Copy)]
+struct UnknownKind;
+
+impl TryFrom<u8> for Kind {
+    type Error = UnknownKind;
+
+    ghost try_from_gives = { KindAt };
+
+    #[tactic(auto, unfolding(list_read::specs::Layout::layout_of), using(std::proofs::lemmas::List::get_or_past))]
+    fn try_from(place: u8) -> Result<Self, UnknownKind> {
+        match place {
+            0 => Ok(Kind::Blend),
+            1 => Ok(Kind::ColorMatrix),
+            2 => Ok(Kind::ComponentTransfer),
+            3 => Ok(Kind::Composite),
+            4 => Ok(Kind::ConvolveMatrix),
+            5 => Ok(Kind::DiffuseLighting),
+            6 => Ok(Kind::DisplacementMap),
+            7 => Ok(Kind::DropShadow),
+            8 => Ok(Kind::Flood),
+            9 => Ok(Kind::GaussianBlur),
+            11 => Ok(Kind::Merge),
+            12 => Ok(Kind::Morphology),
+            13 => Ok(Kind::Offset),
+            14 => Ok(Kind::SpecularLighting),
+            15 => Ok(Kind::Tile),
+            16 => Ok(Kind::Turbulence),
+            10 | 17..=255 => Err(UnknownKind), // 10 is Image
         }
-        Place::Outside => Place::Outside,
-    }
-}
-
-// The first byte at a place.
-fn byte_at(s: &[u8], end: u32, p: Place) -> u8
-    ensures { FirstByte (place_is s.now end p) result }
-{
-    match p {
-        Place::At(at) => bits::byte(s, bits::wide32(at)),
-        Place::Outside => 0,
-    }
-}
-
-// The first two bytes at a place, as a number.
-fn u16_at(s: &[u8], end: u32, p: Place) -> u16
-    ensures { FirstTwo (place_is s.now end p) result }
-{
-    match p {
-        Place::At(at) => bits::get16(s, bits::wide32(at)),
-        Place::Outside => 0,
     }
 }
 
 // The items of the layout: bytes of any value, numbers, a byte below a bound, a Vec of numbers, an Option of a number.
 
-fn after_any(s: &[u8], end: u32, p: Place, n: u8) -> Place
-    ensures { place_is s.now end result ≡ after_item (any_bytes n) (place_is s.now end p) }
+#[tactic(auto, using(crate::proofs::Walking::part_is, crate::proofs::Walking::any_is))]
+fn after_bytes(s: &[u8], n: usize) -> Option<&[u8]>
+    ensures run { option_copied result ≡ after_bytes n (Some s.now) }
+    ensures any { option_copied result ≡ after_item (any_bytes n) (Some s.now) }
 {
-    after_bytes(s, end, p, bits::u8_to_u32(n))
+    s.get(n..)
 }
 
-fn after_numbers(s: &[u8], end: u32, p: Place, n: u16) -> Place
-    ensures { place_is s.now end result ≡ after_item (f32s n) (place_is s.now end p) }
+#[tactic(auto, using(crate::proofs::Walking::f32s_are))]
+fn after_numbers(s: &[u8], n: u16) -> Option<&[u8]>
+    ensures { option_copied result ≡ after_item (f32s n) (Some s.now) }
 {
-    after_bytes(s, end, p, 4 * bits::u16_to_u32(n))
+    after_bytes(s, 4 * usize::from(n))
 }
 
-fn after_byte_below(s: &[u8], end: u32, p: Place, bound: u8) -> Place
-    ensures { place_is s.now end result ≡ after_item (byte_below bound) (place_is s.now end p) }
+#[tactic(auto, using(crate::proofs::Walking::read16_short, crate::proofs::Walking::read16_is))]
+fn read16(s: &[u8]) -> Option<(u16, &[u8])>
+    ensures { got_of result ≡ read16 s.now }
 {
-    let b = byte_at(s, end, p);
-    if b < bound {
-        return after_bytes(s, end, p, 1);
+    let (number, s) = s.split_at_checked(2)?;
+    Some((bits::get16(number, 0), s))
+}
+
+#[tactic(auto, unfolding(list_read::specs::Read::read_below))]
+fn read_below(s: &[u8], bound: u8) -> Option<(u8, &[u8])>
+    ensures value { got_of result ≡ read_below bound s.now }
+    ensures below { IfSome result (λ read. read.0 < bound) }
+{
+    match s {
+        [b, s @ ..] if *b < bound => Some((*b, s)),
+        _ => None,
     }
-    Place::Outside
 }
 
-fn after_vec(s: &[u8], end: u32, p: Place, low: u16, high: u16) -> Place
-    ensures { place_is s.now end result ≡ after_item (vec low high) (place_is s.now end p) }
+#[tactic(auto, unfolding(list_read::specs::Layout::walk_item))]
+fn after_byte_below(s: &[u8], bound: u8) -> Option<&[u8]>
+    ensures { option_copied result ≡ after_item (byte_below bound) (Some s.now) }
 {
-    let n = u16_at(s, end, p);
-    if n < low {
-        return Place::Outside;
+    let (_, s) = read_below(s, bound)?;
+    Some(s)
+}
+
+#[tactic(auto, unfolding(list_read::specs::Layout::walk_item))]
+fn after_vec(s: &[u8], low: u16, high: u16) -> Option<&[u8]>
+    ensures { option_copied result ≡ after_item (vec low high) (Some s.now) }
+{
+    let (n, s) = read16(s)?;
+    if n < low || high < n {
+        return None;
     }
-    if high < n {
-        return Place::Outside;
-    }
-    let q = after_bytes(s, end, p, 2);
-    after_numbers(s, end, q, n)
+    after_numbers(s, n)
 }
 
-fn after_option(s: &[u8], end: u32, p: Place) -> Place
-    ensures { place_is s.now end result ≡ after_item option (place_is s.now end p) }
+#[tactic(auto, unfolding(list_read::specs::Layout::walk_item))]
+fn after_option(s: &[u8]) -> Option<&[u8]>
+    ensures { option_copied result ≡ after_item option (Some s.now) }
 {
-    let n = byte_at(s, end, p);
-    let q = after_byte_below(s, end, p, 2);
-    after_numbers(s, end, q, bits::u8_to_u16(n))
+    let (n, s) = read_below(s, 2)?;
+    after_numbers(s, u16::from(n))
 }
 
-// The enums whose cases hold numbers.
+// The enums whose cases hold numbers, by the place of the case. An enum decoded from the place would be no plainer: each place is named once, here.
 
-fn after_color_matrix_kind(s: &[u8], end: u32, p: Place) -> Place
-    ensures { place_is s.now end result ≡ after_field color_matrix_kind (place_is s.now end p) }
+#[tactic(auto, using(crate::proofs::Walking::no_case))]
+fn after_color_matrix_kind(s: &[u8]) -> Option<&[u8]>
+    ensures { option_copied result ≡ after_field color_matrix_kind (Some s.now) }
 {
-    let k = byte_at(s, end, p);
-    let q = after_byte_below(s, end, p, 4);
+    let (k, s) = read_below(s, 4)?;
     match k {
-        0 => after_vec(s, end, q, 20, 20),
-        1 => after_numbers(s, end, q, 1),
-        2 => after_numbers(s, end, q, 1),
-        _ => q,
+        0 => after_vec(s, 20, 20), // Matrix
+        1 | 2 => after_numbers(s, 1), // Saturate, HueRotate
+        _ => Some(s), // LuminanceToAlpha
     }
 }
 
-fn after_transfer_function(s: &[u8], end: u32, p: Place) -> Place
-    ensures { place_is s.now end result ≡ after_field transfer_function (place_is s.now end p) }
+#[tactic(auto, using(crate::proofs::Walking::no_case))]
+fn after_transfer_function(s: &[u8]) -> Option<&[u8]>
+    ensures { option_copied result ≡ after_field transfer_function (Some s.now) }
 {
-    let k = byte_at(s, end, p);
-    let q = after_byte_below(s, end, p, 5);
+    let (k, s) = read_below(s, 5)?;
     match k {
-        1 => after_vec(s, end, q, 0, 1024),
-        2 => after_vec(s, end, q, 0, 1024),
-        3 => after_numbers(s, end, q, 2),
-        4 => after_numbers(s, end, q, 3),
-        _ => q,
+        0 => Some(s), // Identity
+        1 | 2 => after_vec(s, 0, 1024), // Table, Discrete
+        3 => after_numbers(s, 2), // Linear
+        _ => after_numbers(s, 3), // Gamma
     }
 }
 
-fn after_composite_operator(s: &[u8], end: u32, p: Place) -> Place
-    ensures { place_is s.now end result ≡ after_field composite_operator (place_is s.now end p) }
+#[tactic(auto, using(crate::proofs::Walking::no_case))]
+fn after_composite_operator(s: &[u8]) -> Option<&[u8]>
+    ensures { option_copied result ≡ after_field composite_operator (Some s.now) }
 {
-    let k = byte_at(s, end, p);
-    let q = after_byte_below(s, end, p, 7);
+    let (k, s) = read_below(s, 7)?;
     match k {
-        6 => after_numbers(s, end, q, 4),
-        _ => q,
+        6 => after_numbers(s, 4), // Arithmetic
+        _ => Some(s),
     }
 }
 
-fn after_light_source(s: &[u8], end: u32, p: Place) -> Place
-    ensures { place_is s.now end result ≡ after_field light_source (place_is s.now end p) }
+#[tactic(auto, using(crate::proofs::Walking::no_case))]
+fn after_light_source(s: &[u8]) -> Option<&[u8]>
+    ensures { option_copied result ≡ after_field light_source (Some s.now) }
 {
-    let k = byte_at(s, end, p);
-    let q = after_byte_below(s, end, p, 3);
+    let (k, s) = read_below(s, 3)?;
     match k {
-        0 => after_numbers(s, end, q, 2),
-        1 => after_numbers(s, end, q, 3),
-        2 => {
-            let o = after_numbers(s, end, q, 7);
-            after_option(s, end, o)
+        0 => after_numbers(s, 2), // DistantLight
+        1 => after_numbers(s, 3), // PointLight
+        _ => {
+            // SpotLight
+            let s = after_numbers(s, 7)?;
+            after_option(s)
         }
-        _ => q,
     }
 }
 
 // The fields of each kind, after its inputs.
 
-fn after_component_transfer(s: &[u8], end: u32, p: Place) -> Place
-    ensures { place_is s.now end result ≡ after_kind_fields (layout_of 2) (place_is s.now end p) }
+fn after_component_transfer(s: &[u8]) -> Option<&[u8]>
+    ensures { option_copied result ≡ after_kind_fields (layout_of (place_of Kind.ComponentTransfer)) (Some s.now) }
 {
-    let a = after_transfer_function(s, end, p);
-    let b = after_transfer_function(s, end, a);
-    let c = after_transfer_function(s, end, b);
-    after_transfer_function(s, end, c)
+    let s = after_transfer_function(s)?;
+    let s = after_transfer_function(s)?;
+    let s = after_transfer_function(s)?;
+    after_transfer_function(s)
 }
 
-fn after_convolve_matrix(s: &[u8], end: u32, p: Place) -> Place
-    ensures { place_is s.now end result ≡ after_kind_fields (layout_of 4) (place_is s.now end p) }
+fn after_convolve_matrix(s: &[u8]) -> Option<&[u8]>
+    ensures { option_copied result ≡ after_kind_fields (layout_of (place_of Kind.ConvolveMatrix)) (Some s.now) }
 {
-    let a = after_any(s, end, p, 16);
-    let b = after_vec(s, end, a, 0, 1024);
-    let c = after_numbers(s, end, b, 2);
-    let d = after_byte_below(s, end, c, 3);
-    after_byte_below(s, end, d, 2)
+    let s = after_bytes(s, 16)?;
+    let s = after_vec(s, 0, 1024)?;
+    let s = after_numbers(s, 2)?;
+    let s = after_byte_below(s, 3)?;
+    after_byte_below(s, 2)
 }
 
-fn after_turbulence(s: &[u8], end: u32, p: Place) -> Place
-    ensures { place_is s.now end result ≡ after_kind_fields (layout_of 16) (place_is s.now end p) }
+fn after_displacement_map(s: &[u8]) -> Option<&[u8]>
+    ensures { option_copied result ≡ after_kind_fields (layout_of (place_of Kind.DisplacementMap)) (Some s.now) }
 {
-    let a = after_numbers(s, end, p, 2);
-    let b = after_any(s, end, a, 8);
-    let c = after_byte_below(s, end, b, 2);
-    after_byte_below(s, end, c, 2)
+    let s = after_numbers(s, 1)?;
+    let s = after_byte_below(s, 4)?;
+    after_byte_below(s, 4)
+}
+
+fn after_drop_shadow(s: &[u8]) -> Option<&[u8]>
+    ensures { option_copied result ≡ after_kind_fields (layout_of (place_of Kind.DropShadow)) (Some s.now) }
+{
+    let s = after_numbers(s, 4)?;
+    let s = after_bytes(s, 3)?;
+    after_numbers(s, 1)
+}
+
+fn after_flood(s: &[u8]) -> Option<&[u8]>
+    ensures { option_copied result ≡ after_kind_fields (layout_of (place_of Kind.Flood)) (Some s.now) }
+{
+    let s = after_bytes(s, 3)?;
+    after_numbers(s, 1)
+}
+
+fn after_morphology(s: &[u8]) -> Option<&[u8]>
+    ensures { option_copied result ≡ after_kind_fields (layout_of (place_of Kind.Morphology)) (Some s.now) }
+{
+    let s = after_byte_below(s, 2)?;
+    after_numbers(s, 2)
+}
+
+fn after_turbulence(s: &[u8]) -> Option<&[u8]>
+    ensures { option_copied result ≡ after_kind_fields (layout_of (place_of Kind.Turbulence)) (Some s.now) }
+{
+    let s = after_numbers(s, 2)?;
+    let s = after_bytes(s, 8)?;
+    let s = after_byte_below(s, 2)?;
+    after_byte_below(s, 2)
 }
 
 // A colour and a light source, behind n numbers.
-fn after_lighting(s: &[u8], end: u32, p: Place, n: u16) -> Place
-    ensures { place_is s.now end result ≡ after_field light_source (after_item (any_bytes 3) (after_item (f32s n) (place_is s.now end p))) }
+fn after_lighting(s: &[u8], n: u16) -> Option<&[u8]>
+    ensures { option_copied result ≡ after_field light_source (after_item (any_bytes 3) (after_item (f32s n) (Some s.now))) }
 {
-    let a = after_numbers(s, end, p, n);
-    let b = after_any(s, end, a, 3);
-    after_light_source(s, end, b)
+    let s = after_numbers(s, n)?;
+    let s = after_bytes(s, 3)?;
+    after_light_source(s)
 }
 
-fn after_fields(s: &[u8], end: u32, p: Place, kind: u8) -> Place
-    ensures { place_is s.now end result ≡ after_kind_fields (layout_of kind) (place_is s.now end p) }
+fn after_fields(s: &[u8], kind: Kind) -> Option<&[u8]>
+    ensures { option_copied result ≡ after_kind_fields (layout_of (place_of kind)) (Some s.now) }
 {
     match kind {
-        0 => after_byte_below(s, end, p, 16),
-        1 => after_color_matrix_kind(s, end, p),
-        2 => after_component_transfer(s, end, p),
-        3 => after_composite_operator(s, end, p),
-        4 => after_convolve_matrix(s, end, p),
-        5 => after_lighting(s, end, p, 2),
-        6 => {
-            let a = after_numbers(s, end, p, 1);
-            let b = after_byte_below(s, end, a, 4);
-            after_byte_below(s, end, b, 4)
-        }
-        7 => {
-            let a = after_numbers(s, end, p, 4);
-            let b = after_any(s, end, a, 3);
-            after_numbers(s, end, b, 1)
-        }
-        8 => {
-            let a = after_any(s, end, p, 3);
-            after_numbers(s, end, a, 1)
-        }
-        9 => after_numbers(s, end, p, 2),
-        11 => p,
-        12 => {
-            let a = after_byte_below(s, end, p, 2);
-            after_numbers(s, end, a, 2)
-        }
-        13 => after_numbers(s, end, p, 2),
-        14 => after_lighting(s, end, p, 3),
-        15 => p,
-        16 => after_turbulence(s, end, p),
-        _ => Place::Outside,
+        Kind::Blend => after_byte_below(s, 16),
+        Kind::ColorMatrix => after_color_matrix_kind(s),
+        Kind::ComponentTransfer => after_component_transfer(s),
+        Kind::Composite => after_composite_operator(s),
+        Kind::ConvolveMatrix => after_convolve_matrix(s),
+        Kind::DiffuseLighting => after_lighting(s, 2),
+        Kind::DisplacementMap => after_displacement_map(s),
+        Kind::DropShadow => after_drop_shadow(s),
+        Kind::Flood => after_flood(s),
+        Kind::GaussianBlur | Kind::Offset => after_numbers(s, 2),
+        Kind::Merge | Kind::Tile => Some(s),
+        Kind::Morphology => after_morphology(s),
+        Kind::SpecularLighting => after_lighting(s, 3),
+        Kind::Turbulence => after_turbulence(s),
     }
 }
 
 // A text of at most 255 bytes, which are UTF-8.
-fn after_text(s: &[u8], end: u32, p: Place) -> Place
-    ensures { place_is s.now end result ≡ after_text (place_is s.now end p) }
+#[tactic(auto, unfolding(list_read::specs::Read::read_text), using(crate::proofs::Walking::text_parts))]
+fn after_text(s: &[u8]) -> Option<&[u8]>
+    ensures { option_copied result ≡ after_text (Some s.now) }
 {
-    let n = u16_at(s, end, p);
+    let (n, s) = read16(s)?;
     if 255 < n {
-        return Place::Outside;
+        return None;
     }
-    let q = after_bytes(s, end, p, 2);
-    let r = after_bytes(s, end, q, bits::u16_to_u32(n));
-    match q {
-        Place::At(from) => {
-            if bits::is_utf8(s, from, n) {
-                return r;
-            }
-            Place::Outside
-        }
-        Place::Outside => Place::Outside,
+    let (text, s) = s.split_at_checked(usize::from(n))?;
+    if bits::is_utf8(text, 0, n) {
+        Some(s)
+    } else {
+        None
     }
 }
 
-fn after_reference(s: &[u8], end: u32, p: Place, form: ListForm) -> Place
-    ensures { place_is s.now end result ≡ after_reference form (place_is s.now end p) }
+fn after_reference(s: &[u8], form: ListForm) -> Option<&[u8]>
+    ensures { option_copied result ≡ after_reference form (Some s.now) }
 {
     match form {
-        ListForm::One => after_text(s, end, p),
-        ListForm::Two => after_bytes(s, end, p, 2),
+        ListForm::One => after_text(s),
+        ListForm::Two => after_bytes(s, 2),
     }
 }
 
-fn after_input(s: &[u8], end: u32, p: Place, form: ListForm) -> Place
-    ensures { place_is s.now end result ≡ after_input form (place_is s.now end p) }
+#[tactic(auto, unfolding(list_read::specs::Records::read_input))]
+fn after_input(s: &[u8], form: ListForm) -> Option<&[u8]>
+    ensures { option_copied result ≡ after_input form (Some s.now) }
 {
-    let k = byte_at(s, end, p);
-    let q = after_byte_below(s, end, p, 3);
-    if k == 2 {
-        return after_reference(s, end, q, form);
+    let (k, s) = read_below(s, 3)?;
+    match k {
+        0 | 1 => Some(s), // SourceGraphic, SourceAlpha
+        _ => after_reference(s, form),
     }
-    q
 }
 
-fn after_inputs(s: &[u8], end: u32, p: Place, n: u16, form: ListForm) -> Place
-    ensures { place_is s.now end result ≡ after_inputs form n (place_is s.now end p) }
+fn after_inputs(s: &[u8], n: u16, form: ListForm) -> Option<&[u8]>
+    ensures { option_copied result ≡ after_inputs form (exactly n) (Some s.now) }
 {
-    let mut q = p;
-    let mut left = n;
-    while 0 < left {
-        q = after_input(s, end, q, form);
-        left -= 1;
+    let mut s = s;
+    for _ in 0..n {
+        s = after_input(s, form)?;
     }
-    q
+    Some(s)
 }
 
 // The inputs of a merge.
-fn after_merge_inputs(s: &[u8], end: u32, p: Place, form: ListForm) -> Place
-    ensures { place_is s.now end result ≡ after_kind_inputs form (layout_of 11) (place_is s.now end p) }
+#[tactic(auto, unfolding(list_read::specs::Records::read_inputs))]
+fn after_merge_inputs(s: &[u8], form: ListForm) -> Option<&[u8]>
+    ensures { option_copied result ≡ after_inputs form counted (Some s.now) }
 {
-    let n = u16_at(s, end, p);
+    let (n, s) = read16(s)?;
     if 511 < n {
-        return Place::Outside;
+        return None;
     }
-    let q = after_bytes(s, end, p, 2);
-    after_inputs(s, end, q, n, form)
+    after_inputs(s, n, form)
 }
 
-fn after_kind_inputs(s: &[u8], end: u32, p: Place, kind: u8, form: ListForm) -> Place
-    ensures { place_is s.now end result ≡ after_kind_inputs form (layout_of kind) (place_is s.now end p) }
+fn after_kind_inputs(s: &[u8], kind: Kind, form: ListForm) -> Option<&[u8]>
+    ensures { option_copied result ≡ after_kind_inputs form (layout_of (place_of kind)) (Some s.now) }
 {
     match kind {
-        0 => after_inputs(s, end, p, 2, form),
-        1 => after_inputs(s, end, p, 1, form),
-        2 => after_inputs(s, end, p, 1, form),
-        3 => after_inputs(s, end, p, 2, form),
-        4 => after_inputs(s, end, p, 1, form),
-        5 => after_inputs(s, end, p, 1, form),
-        6 => after_inputs(s, end, p, 2, form),
-        7 => after_inputs(s, end, p, 1, form),
-        8 => after_inputs(s, end, p, 0, form),
-        9 => after_inputs(s, end, p, 1, form),
-        11 => after_merge_inputs(s, end, p, form),
-        12 => after_inputs(s, end, p, 1, form),
-        13 => after_inputs(s, end, p, 1, form),
-        14 => after_inputs(s, end, p, 1, form),
-        15 => after_inputs(s, end, p, 1, form),
-        16 => after_inputs(s, end, p, 0, form),
-        _ => Place::Outside,
+        Kind::Flood | Kind::Turbulence => after_inputs(s, 0, form),
+        Kind::Blend | Kind::Composite | Kind::DisplacementMap => after_inputs(s, 2, form),
+        Kind::Merge => after_merge_inputs(s, form),
+        _ => after_inputs(s, 1, form),
     }
 }
 
-// Whether the bytes from `at` to `end` are a record in the layout.
-fn record_in_layout(s: &[u8], at: u32, end: u32, form: ListForm) -> bool
-    requires { at ≤ end }
-    ensures { result ≡ record_in_layout form (bytes_from s.now at (end - at)) }
+// The parts of a record, which have to end where it does.
+#[tactic(auto, using(crate::proofs::Recording::record_parts))]
+fn after_record(s: &[u8], form: ListForm) -> Option<&[u8]>
+    ensures { ended (option_copied result) ≡ record_in_layout form s.now }
 {
-    let a = after_bytes(s, end, Place::At(at), 16);
-    let b = after_byte_below(s, end, a, 2);
-    let c = after_text(s, end, b);
-    let kind = byte_at(s, end, c);
-    let d = after_bytes(s, end, c, 1);
-    let e = after_kind_inputs(s, end, d, kind, form);
-    let f = after_fields(s, end, e, kind);
-    match f {
-        Place::At(x) => x == end,
-        Place::Outside => false,
-    }
+    let s = after_bytes(s, 16)?;
+    let s = after_byte_below(s, 2)?;
+    let s = after_text(s)?;
+    let (place, s) = s.split_first()?;
+    let Ok(kind) = Kind::try_from(*place) else {
+        return None;
+    };
+    let s = after_kind_inputs(s, kind, form)?;
+    after_fields(s, kind)
 }
 
-// Whether n records in the layout stand from `at` to `end`, with their pairs of offset and length from `pairs` on.
-fn records_in_layout(s: &[u8], end: u32, pairs: u32, at: u32, n: u16, form: ListForm) -> bool
-    requires { (at ≤ end) × (pairs + 8 * n ≤ end) }
-    ensures { result ≡ records_in_layout form n at (bytes_from s.now pairs (8 * n)) (bytes_from s.now at (end - at)) }
+// Whether some bytes are a record in the layout.
+fn record_in_layout(s: &[u8], form: ListForm) -> bool
+    ensures { result ≡ record_in_layout form s.now }
 {
-    let mut p = pairs;
-    let mut a = at;
-    let mut left = n;
-    while 0 < left {
-        let offset = bits::get32(s, bits::wide32(p));
-        if offset != a {
-            return false;
-        }
-        let size = bits::get32(s, bits::wide32(p + 4));
-        if end - a < size {
-            return false;
-        }
-        let next = a + size;
-        if !record_in_layout(s, a, next, form) {
-            return false;
-        }
-        a = next;
-        p += 8;
-        left -= 1;
-    }
-    a == end
+    after_record(s, form).is_some_and(|left| left.is_empty())
 }
 
-// Whether the bytes from `before` to `end` are a count, pairs and records in the layout.
-fn counted_in_layout(s: &[u8], end: u32, before: u32, form: ListForm) -> bool
-    requires { (before ≤ end) × (before ≤ 2) }
-    ensures { result ≡ counted_in_layout form before (bytes_from s.now before (end - before)) }
+// Whether some bytes are records in the layout, of which the first stands at the offset `first`; the pairs are their offsets and lengths. No offset overflows,
+// since `first` is small.
+#[tactic(auto, using(crate::proofs::Listing::paired_steps))]
+fn records_in_layout(pairs: &[u8], records: &[u8], first: usize, form: ListForm) -> bool
+    requires { first ≤ 4100 }
+    ensures { result ≡ records_in_layout form (length pairs.now / 8) first pairs.now records.now }
 {
-    if end - before < 2 {
+    let mut at = first;
+    let mut left = records;
+    for pair in pairs.chunks_exact(8) {
+        if bits::get32(pair, 0) as usize != at {
+            return false;
+        }
+        let size = bits::get32(pair, 4) as usize;
+        let Some((record, behind)) = left.split_at_checked(size) else {
+            return false;
+        };
+        if !record_in_layout(record, form) {
+            return false;
+        }
+        at += size;
+        left = behind;
+    }
+    left.is_empty()
+}
+
+// Whether some bytes, which stand behind `before` others, are a count, pairs and records in the layout.
+#[tactic(auto, unfolding(crate::specs::After::counted_in_layout, list_read::specs::Lists::read_counted), using(crate::proofs::Listing::pairs_in))]
+fn counted_in_layout(s: &[u8], before: usize, form: ListForm) -> bool
+    requires { before ≤ 2 }
+    ensures { result ≡ counted_in_layout form before s.now }
+{
+    let Some((n, s)) = read16(s) else {
         return false;
-    }
-    let n = bits::get16(s, bits::wide32(before));
+    };
     if 512 < n {
         return false;
     }
-    let pairs = before + 2;
-    let size = 8 * bits::u16_to_u32(n);
-    if end - pairs < size {
-        return false;
+    let size = 8 * usize::from(n);
+    match s.split_at_checked(size) {
+        Some((pairs, records)) => records_in_layout(pairs, records, before + 2 + size, form),
+        None => false,
     }
-    records_in_layout(s, end, pairs, pairs + size, n, form)
 }
 
 // Whether some bytes are a list in the layout. No such list has more than 84,535,300 bytes.
+#[tactic(auto, using(crate::proofs::Listing::openings))]
 pub fn in_layout(s: &[u8], form: ListForm) -> bool
     ensures { result ≡ in_layout form s.now }
 {
-    if 100_000_000 < s.len() {
-        return false;
-    }
-    let end = s.len() as u32;
     match form {
-        ListForm::One => counted_in_layout(s, end, 0, form),
-        ListForm::Two => {
-            if end < 2 {
-                return false;
-            }
-            if bits::byte(s, 0) != 255 {
-                return false;
-            }
-            if bits::byte(s, 1) != 255 {
-                return false;
-            }
-            counted_in_layout(s, end, 2, form)
-        }
+        ListForm::One => counted_in_layout(s, 0, form),
+        ListForm::Two => match s {
+            [255, 255, s @ ..] => counted_in_layout(s, 2, form),
+            _ => false,
+        },
     }
 }

@@ -1,7 +1,7 @@
 -- The inputs of a merge, one node after the other. Assumes nothing.
 use mathlib.Core.Path.{◌≡◌, refl, sym, ap, ◌∙◌}
 use mathlib.Core.List.{List, [], ◌∷◌, ◌++◌, map, append-nil, append_assoc}
-use Prim.Native.Nat.{ℕ, zero, suc, ◌+◌}
+use Prim.Native.Nat.{ℕ, zero, suc, ◌+◌, ◌≤◌, ◌<◌}
 use lib.ListN.{length, length-map}
 use Rattle.tree.specs.List.{input_run}
 use Rattle.svgtree.specs.Parse.{node_at, nodes_from}
@@ -9,6 +9,7 @@ use Rattle.svgtree.proofs.Following.{nodes_more}
 use Rattle.child.specs.Child.{in_of}
 use Rattle.naming.proofs.Claim.{map_snoc}
 use Rattle.list_primitives.specs.Tables.{input_bytes_at}
+use Rattle.list_primitives.proofs.Growing.{room}
 
 run_snoc : {A : Type 0} (f : A → List ℕ) (inputs : List A) (i : A) → input_run f (inputs ++ (i ∷ [])) ≡ input_run f inputs ++ f i
 unfolding input_run
@@ -24,19 +25,24 @@ nodes_long s i (suc k) = ap suc (nodes_long s (i + 1) k)
 pub inputs_long : (s : List ℕ) (i k : ℕ) → length (map in_of (nodes_from s i k)) ≡ k
 inputs_long s i k = length-map (nodes_from s i k) in_of ∙ nodes_long s i k
 
-module _ (s names : List ℕ) (n first : ℕ) where
+module _ (s entries : List ℕ) (first : ℕ) where
   -- the bytes of the first j inputs, and of the next
   abbrev pub merge_up_to : ℕ → List ℕ
-  merge_up_to j = input_run (input_bytes_at s names n) (map in_of (nodes_from s first j))
+  merge_up_to j = input_run (input_bytes_at s entries) (map in_of (nodes_from s first j))
 
   abbrev pub merge_next : ℕ → List ℕ
-  merge_next j = input_bytes_at s names n (in_of (node_at s (first + j)))
+  merge_next j = input_bytes_at s entries (in_of (node_at s (first + j)))
 
   pub merge_step : (j : ℕ) → merge_up_to (j + 1) ≡ merge_up_to j ++ merge_next j
   merge_step j =
       rw (nodes_more s first j, map_snoc in_of (nodes_from s first j))
-      (run_snoc (input_bytes_at s names n) (map in_of (nodes_from s first j)) (in_of (node_at s (first + j))))
+      (run_snoc (input_bytes_at s entries) (map in_of (nodes_from s first j)) (in_of (node_at s (first + j))))
 
   pub merge_none : merge_up_to 0 ≡ []
   unfolding nodes_from input_run
   merge_none = refl
+
+  pub merge_room : (j n : ℕ) → j < n → length (merge_up_to j) + length (merge_next j) ≤ length (merge_up_to n)
+  merge_room = room merge_up_to merge_next merge_step
+
+pub ruleset merging = (merge_none, merge_step, merge_room)

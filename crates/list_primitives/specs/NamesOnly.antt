@@ -1,6 +1,5 @@
 -- Children and primitives as far as names go, where only proofs need it. Definitions only.
-use Rattle.std.specs.Prelude.{List, map}
-use Rattle.std.proofs.Math.Option.{Option}
+use Rattle.std.specs.Prelude.{List, map, Option}
 use Rattle.tree.specs.Input.{Name}
 use Rattle.tree.specs.Kinds.{Primitive, inputs_of}
 use Rattle.naming.specs.Agreement.{RecordNames}

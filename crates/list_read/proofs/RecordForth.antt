@@ -1,10 +1,10 @@
 -- A record that is read is what was written. Assumes nothing.
+use Rattle.std.specs.Prelude.{None, Option, Some}
 use Prim.Native.Nat.{ℕ, zero, suc, ◌<◌}
 use native.Mathlib.Omega.{arith}
 use mathlib.Core.Path.{◌≡◌, refl, sym, ap, ◌∙◌, subst}
 use mathlib.Core.List.{List, [], ◌∷◌, ◌++◌}
 use mathlib.Core.Bool.{true}
-use mathlib.Core.Option.{Option, none, some}
 use borrow.Author.Tests.{eq-eqb}
 use lib.Dec.{leb}
 use lib.ListN.{length}
@@ -52,7 +52,7 @@ module _ {R : Type 0} (f : Form R) (law : Lawful f) where
       (λ is r' q. (rw q.0 few, q.1, fronts (subst (λ (k : ℕ). Front xs (bytes16 k) r) (sym q.0) p.1) q.2))
       (run_inputs n r p.1.rest)))
 
-  record_is : (xs rect : List ℕ) (color : ℕ) (result : Name) (kind : ℕ) (r₄ : List ℕ) (is : List (InputOf R)) (r₅ : List ℕ) (l : Layout) → layout_of kind ≡ some l → xs ≡ rect ++ (color ∷ text_bytes result ++ (kind ∷ r₄)) → r₄ ≡ write_inputs f l.inputs is ++ r₅ → xs ≡ write_record f (record { rect = rect; color_interpolation = color; result = result; kind = kind; inputs = is; fields = r₅ })
+  record_is : (xs rect : List ℕ) (color : ℕ) (result : Name) (kind : ℕ) (r₄ : List ℕ) (is : List (InputOf R)) (r₅ : List ℕ) (l : Layout) → layout_of kind ≡ Some l → xs ≡ rect ++ (color ∷ text_bytes result ++ (kind ∷ r₄)) → r₄ ≡ write_inputs f l.inputs is ++ r₅ → xs ≡ write_record f (record { rect = rect; color_interpolation = color; result = result; kind = kind; inputs = is; fields = r₅ })
   unfolding write_record
   record_is xs rect color result kind r₄ is r₅ l e w s = rw e (w ∙ ap (λ (ys : List ℕ). rect ++ (color ∷ text_bytes result ++ (kind ∷ ys))) s)
 
@@ -64,8 +64,8 @@ module _ {R : Type 0} (f : Form R) (law : Lawful f) where
       (whole : xs ≡ rect ++ (color ∷ text_bytes result ++ (kind ∷ r₄))) where
     kind_forth : (o : Option Layout) → layout_of kind ≡ o → Holds (Read xs) (read_kind f o rect color result kind r₄)
     unfolding read_kind
-    kind_forth none e = tt
-    kind_forth (some l) e =
+    kind_forth None e = tt
+    kind_forth (Some l) e =
         holds_then _ _ (read_inputs f l.inputs r₄) _ (inputs_forth l.inputs r₄ b)
         (λ is r₅ p. holds_only_if _ (at_end (walk_fields l.fields r₅)) _
         (λ end. (good is r₅ p.0 p.1 end, refl, same is r₅ p.2.split)))

@@ -1,10 +1,10 @@
 -- A record in the layout has at most 165,100 bytes, so that the offsets of any list in it fit a u32. Assumes nothing.
+use Rattle.std.specs.Prelude.{None, Option, Some}
 use Prim.Native.Nat.{ℕ, zero, suc, ◌+◌, ◌*◌, ◌<◌, ◌≤◌}
 use native.Mathlib.Omega.{arith}
 use mathlib.Core.Path.{◌≡◌, refl, subst}
 use mathlib.Core.List.{List, [], ◌∷◌, ◌++◌}
 use mathlib.Core.Bool.{false, Bool, true, ◌&&◌}
-use mathlib.Core.Option.{Option, none, some}
 use borrow.Author.Tests.{ltb-true, leb-true, eqb-true}
 use lib.Dec.{T, leb, ltb}
 use lib.ListN.{length, length-append, get_or}
@@ -135,14 +135,14 @@ arity_most (exactly n) = n
 arity_most counted = 511
 
 abbrev Small : Option Layout → Type 0
-Small none = Unit {0}
-Small (some l) = T (leb (fields_most l.fields) 32868 && leb (arity_most l.inputs) 511)
+Small None = Unit {0}
+Small (Some l) = T (leb (fields_most l.fields) 32868 && leb (arity_most l.inputs) 511)
 
 unfoldable AllSmall : List (Option Layout) → Type 0
 AllSmall [] = Unit {0}
 AllSmall (o ∷ os) = Small o × AllSmall os
 
-small_at : (os : List (Option Layout)) → AllSmall os → (k : ℕ) → Small (get_or os k none)
+small_at : (os : List (Option Layout)) → AllSmall os → (k : ℕ) → Small (get_or os k None)
 unfolding AllSmall
 small_at [] h zero = tt
 small_at [] h (suc k) = tt
@@ -157,7 +157,7 @@ T_true : (b : Bool) → T b → b ≡ true
 T_true true h = refl
 T_true false h = elim h [ ]
 
-layout_small : (k : ℕ) (l : Layout) → layout_of k ≡ some l → (fields_most l.fields ≤ 32868) × (arity_most l.inputs ≤ 511)
+layout_small : (k : ℕ) (l : Layout) → layout_of k ≡ Some l → (fields_most l.fields ≤ 32868) × (arity_most l.inputs ≤ 511)
 unfolding layout_of
 layout_small k l e =
     let b = leb (fields_most l.fields) 32868 in

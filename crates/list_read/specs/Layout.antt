@@ -1,6 +1,5 @@
 -- The layout of each kind of primitive, as data, and one walk over it. Definitions only.
-use Rattle.std.specs.Prelude.{ℕ, ◌*◌, List, [], ◌∷◌, ◌++◌, Bool, true, false, ◌&&◌, leb, length, get_or}
-use Rattle.std.proofs.Math.Option.{Option, none, some}
+use Rattle.std.specs.Prelude.{ℕ, ◌*◌, List, [], ◌∷◌, ◌++◌, Bool, true, false, ◌&&◌, leb, length, get_or, None, Option, Some}
 use Rattle.list_read.specs.Read.{Got, outside, got, and_then, only_if, read_byte, read_below, read16, read32, read_many}
 
 -- what a field is made of
@@ -70,27 +69,27 @@ light_source = enum ((f32s 2 ∷ []) ∷ (f32s 3 ∷ []) ∷ (f32s 7 ∷ option 
 -- the kinds in the order of the declaration; Image is outside the layout
 abbrev pub layouts : List (Option Layout)
 layouts =
-    some (layout (exactly 2) (place 16 ∷ []))  -- Blend: mode
-    ∷ some (layout (exactly 1) (color_matrix_kind ∷ []))  -- ColorMatrix: kind
-    ∷ some (layout (exactly 1) (transfer_function ∷ transfer_function ∷ transfer_function ∷ transfer_function ∷ []))  -- ComponentTransfer: red, green, blue, alpha
-    ∷ some (layout (exactly 2) (composite_operator ∷ []))  -- Composite: operator
-    ∷ some (layout (exactly 1) (words 4 ∷ item number_list ∷ numbers 2 ∷ place 3 ∷ bool ∷ []))  -- ConvolveMatrix: target x, target y, columns, rows; kernel; divisor, bias; edge mode; preserve alpha
-    ∷ some (layout (exactly 1) (numbers 2 ∷ color ∷ light_source ∷ []))  -- DiffuseLighting: surface scale, diffuse constant; colour; light
-    ∷ some (layout (exactly 2) (numbers 1 ∷ place 4 ∷ place 4 ∷ []))  -- DisplacementMap: scale; x channel; y channel
-    ∷ some (layout (exactly 1) (numbers 4 ∷ color ∷ numbers 1 ∷ []))  -- DropShadow: dx, dy, deviations; colour; opacity
-    ∷ some (layout (exactly 0) (color ∷ numbers 1 ∷ []))  -- Flood: colour; opacity
-    ∷ some (layout (exactly 1) (numbers 2 ∷ []))  -- GaussianBlur: deviations
-    ∷ none  -- Image
-    ∷ some (layout counted [])  -- Merge
-    ∷ some (layout (exactly 1) (place 2 ∷ numbers 2 ∷ []))  -- Morphology: operator; radii
-    ∷ some (layout (exactly 1) (numbers 2 ∷ []))  -- Offset: dx, dy
-    ∷ some (layout (exactly 1) (numbers 3 ∷ color ∷ light_source ∷ []))  -- SpecularLighting: surface scale, specular constant, specular exponent; colour; light
-    ∷ some (layout (exactly 1) [])  -- Tile
-    ∷ some (layout (exactly 0) (numbers 2 ∷ words 2 ∷ bool ∷ place 2 ∷ []))  -- Turbulence: base frequencies; octaves, seed; stitch tiles; kind
+    Some (layout (exactly 2) (place 16 ∷ []))  -- Blend: mode
+    ∷ Some (layout (exactly 1) (color_matrix_kind ∷ []))  -- ColorMatrix: kind
+    ∷ Some (layout (exactly 1) (transfer_function ∷ transfer_function ∷ transfer_function ∷ transfer_function ∷ []))  -- ComponentTransfer: red, green, blue, alpha
+    ∷ Some (layout (exactly 2) (composite_operator ∷ []))  -- Composite: operator
+    ∷ Some (layout (exactly 1) (words 4 ∷ item number_list ∷ numbers 2 ∷ place 3 ∷ bool ∷ []))  -- ConvolveMatrix: target x, target y, columns, rows; kernel; divisor, bias; edge mode; preserve alpha
+    ∷ Some (layout (exactly 1) (numbers 2 ∷ color ∷ light_source ∷ []))  -- DiffuseLighting: surface scale, diffuse constant; colour; light
+    ∷ Some (layout (exactly 2) (numbers 1 ∷ place 4 ∷ place 4 ∷ []))  -- DisplacementMap: scale; x channel; y channel
+    ∷ Some (layout (exactly 1) (numbers 4 ∷ color ∷ numbers 1 ∷ []))  -- DropShadow: dx, dy, deviations; colour; opacity
+    ∷ Some (layout (exactly 0) (color ∷ numbers 1 ∷ []))  -- Flood: colour; opacity
+    ∷ Some (layout (exactly 1) (numbers 2 ∷ []))  -- GaussianBlur: deviations
+    ∷ None  -- Image
+    ∷ Some (layout counted [])  -- Merge
+    ∷ Some (layout (exactly 1) (place 2 ∷ numbers 2 ∷ []))  -- Morphology: operator; radii
+    ∷ Some (layout (exactly 1) (numbers 2 ∷ []))  -- Offset: dx, dy
+    ∷ Some (layout (exactly 1) (numbers 3 ∷ color ∷ light_source ∷ []))  -- SpecularLighting: surface scale, specular constant, specular exponent; colour; light
+    ∷ Some (layout (exactly 1) [])  -- Tile
+    ∷ Some (layout (exactly 0) (numbers 2 ∷ words 2 ∷ bool ∷ place 2 ∷ []))  -- Turbulence: base frequencies; octaves, seed; stitch tiles; kind
     ∷ []
 
 unfoldable pub layout_of : ℕ → Option Layout
-layout_of k = get_or layouts k none
+layout_of k = get_or layouts k None
 
 -- The walk. What it gives are the bit patterns of the f32 that it passes, in order.
 

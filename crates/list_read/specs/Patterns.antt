@@ -1,13 +1,12 @@
 -- "A number in the list is any f32 in it": the bit patterns of the f32 of a record, in the order in which they are written. Definitions only.
-use Rattle.std.specs.Prelude.{ℕ, List, [], ◌∷◌, ◌++◌}
-use Rattle.std.proofs.Math.Option.{Option, none, some}
+use Rattle.std.specs.Prelude.{ℕ, List, [], ◌∷◌, ◌++◌, None, Option, Some}
 use Rattle.list_read.specs.Read.{Got, outside, got, read32, read_many}
 use Rattle.list_read.specs.Layout.{Layout, layout_of, walk_fields}
 use Rattle.list_read.specs.Records.{ListRecord}
 
 abbrev pub walk_kind : Option Layout → List ℕ → Got (List ℕ)
-walk_kind none xs = outside
-walk_kind (some l) xs = walk_fields l.fields xs
+walk_kind None xs = outside
+walk_kind (Some l) xs = walk_fields l.fields xs
 
 abbrev pub patterns_in : Got (List ℕ) → List ℕ
 patterns_in outside = []

@@ -1,6 +1,5 @@
 -- A record of a list as bits and bytes, and how it is read, over the form of the list: what a reference is. Definitions only.
-use Rattle.std.specs.Prelude.{ℕ, zero, suc, List, [], Bool, ◌&&◌, leb, length}
-use Rattle.std.proofs.Math.Option.{Option, none, some}
+use Rattle.std.specs.Prelude.{ℕ, zero, suc, List, [], Bool, ◌&&◌, leb, length, None, Option, Some}
 use Rattle.bits.specs.Utf8.{utf8}
 use Rattle.tree.specs.Input.{Name, InputOf, SourceGraphic, SourceAlpha, Reference, text_bytes}
 use Rattle.list_read.specs.Read.{Got, outside, got, and_then, only_if, read_byte, read_below, read16, read_many, read_text}
@@ -46,8 +45,8 @@ module _ {R : Type 0} (f : Form R) where
 
   -- the inputs and the other fields of a kind, which end the record
   unfoldable pub read_kind : Option Layout → List ℕ → ℕ → Name → ℕ → List ℕ → Got (ListRecord R)
-  read_kind none rect color result kind xs = outside
-  read_kind (some l) rect color result kind xs =
+  read_kind None rect color result kind xs = outside
+  read_kind (Some l) rect color result kind xs =
       and_then (read_inputs l.inputs xs)
       (λ is r.
       only_if (at_end (walk_fields l.fields r))

@@ -1,7 +1,6 @@
 -- The writer of records and lists, and which of them it can write so that they are read back: what the theorems of the reader are about. No contract of
 -- an exported call reaches these. Definitions only.
-use Rattle.std.specs.Prelude.{ℕ, ◌<◌, ◌+◌, ◌*◌, ◌≤◌, List, [], ◌∷◌, ◌++◌, Bool, true, ◌&&◌, ◌≡◌, length, leb, eqb}
-use Rattle.std.proofs.Math.Option.{Option, none, some}
+use Rattle.std.specs.Prelude.{ℕ, ◌<◌, ◌+◌, ◌*◌, ◌≤◌, List, [], ◌∷◌, ◌++◌, Bool, true, ◌&&◌, ◌≡◌, length, leb, eqb, None, Option, Some}
 use Rattle.bits.specs.Bytes.{bytes16, bytes32}
 use Rattle.tree.specs.Input.{InputOf, SourceGraphic, SourceAlpha, Reference, text_bytes, input_bytes_with}
 use Rattle.tree.specs.List.{input_run}
@@ -17,8 +16,8 @@ module _ {R : Type 0} (f : Form R) where
   write_inputs counted is = bytes16 (length is) ++ input_run write_input is
 
   abbrev pub write_kind_inputs : Option Layout → List (InputOf R) → List ℕ
-  write_kind_inputs none is = []
-  write_kind_inputs (some l) is = write_inputs l.inputs is
+  write_kind_inputs None is = []
+  write_kind_inputs (Some l) is = write_inputs l.inputs is
 
   unfoldable pub write_record : ListRecord R → List ℕ
   write_record r =
@@ -41,7 +40,7 @@ inputs_fit f (i ∷ is) = input_fits f i && inputs_fit f is
 
 pub record InLayout {R : Type 0} (f : Form R) (r : ListRecord R) : Type 0 where
   pub layout : Layout
-  pub known : layout_of r.kind ≡ some layout
+  pub known : layout_of r.kind ≡ Some layout
   pub rect : length r.rect ≡ 16
   pub color : r.color_interpolation < 2
   pub result : text_fits r.result ≡ true

@@ -1,10 +1,10 @@
 -- The list of primitives is read back from its bytes. Assumes nothing.
+use Rattle.std.specs.Prelude.{None, Option, Some}
 use Prim.Native.Nat.{ℕ, ◌<◌, ◌≤◌}
 use native.Mathlib.Omega.{arith}
 use mathlib.Core.Path.{◌≡◌, refl, sym, ap}
 use mathlib.Core.Bool.{Bool, true, false}
 use mathlib.Core.List.{List, [], ◌∷◌, map, map-append}
-use mathlib.Core.Option.{Option, none, some}
 use borrow.Author.Tests.{le-leb}
 use lib.ListN.{length, length-map}
 use Rattle.bits.specs.Bytes.{bytes32}
@@ -33,8 +33,8 @@ use Rattle.list_read_back.proofs.Same.{list_same}
 use Rattle.list_read_back.proofs.Walks.{pattern_of, kind_walk}
 
 abbrev arity_is : Option Layout → ℕ → Bool
-arity_is none n = false
-arity_is (some l) n = arity_fits l.inputs n
+arity_is None n = false
+arity_is (Some l) n = arity_fits l.inputs n
 
 arity_is_lem : (k : Kind Input) → KindWithin k → arity_is (layout_of (kind_place k)) (length (inputs_of k)) ≡ true
 unfolding layout_of inputs_of
@@ -62,8 +62,8 @@ color_small LinearRGB = omega arith
 
 module _ (p : Primitive) (w : Within p) where
   inside_by : (o : Option Layout) → layout_of (kind_place p.kind) ≡ o → walk_kind o (field_bytes p.kind) ≡ got (map pattern_of (ranges.numbers_of_kind p.kind)) [] → arity_is o (length (inputs_of p.kind)) ≡ true → InLayout form1 (list_record_of p)
-  inside_by none e h a = absurd (let z : ◌≡◌ {A = ℕ} 0 1 = cc in omega arith)
-  inside_by (some l) e h a =
+  inside_by None e h a = absurd (let z : ◌≡◌ {A = ℕ} 0 1 = cc in omega arith)
+  inside_by (Some l) e h a =
       record {
         layout = l;
         known = e;

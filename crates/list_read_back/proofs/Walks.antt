@@ -1,4 +1,5 @@
 -- The layout's walk over the fields of each kind passes all of their bytes, and gives the bit patterns of its numbers. Assumes nothing.
+use Rattle.std.specs.Prelude.{Float, None, Option, Some}
 use Prim.Native.Nat.{ℕ, ◌+◌, ◌*◌, ◌/◌, ◌%◌, ◌<◌, ◌≤◌}
 use native.Mathlib.Omega.{arith}
 use mathlib.Core.Path.{◌≡◌, refl, sym, ap, ◌∙◌}
@@ -29,8 +30,6 @@ use Rattle.tree.specs.declared.TurbulenceKind.{TurbulenceKind}
 use Rattle.tree.specs.declared.TurbulenceKind.TheVariants as noise
 use Rattle.tree.specs.declared.CompositeOperator.{CompositeOperator}
 use Rattle.tree.specs.declared.CompositeOperator.TheVariants as composite
-use Rattle.tree.specs.declared.OptionF32.{OptionF32}
-use Rattle.tree.specs.declared.OptionF32.TheVariants as optional
 use Rattle.tree.specs.declared.LightSource.{LightSource}
 use Rattle.tree.specs.declared.LightSource.TheVariants as light
 use Rattle.fe_color.specs.Ranges.{color_matrix_numbers, transfer_function_numbers, component_transfer_numbers, operator_numbers}
@@ -137,11 +136,11 @@ composite_walk composite.Xor r = refl
 composite_walk composite.Lighter r = refl
 composite_walk (composite.Arithmetic k1 k2 k3 k4) r = refl
 
-spot_walk : (a b c d e g h : Float) (v : OptionF32) (r : List ℕ)
+spot_walk : (a b c d e g h : Float) (v : Option Float) (r : List ℕ)
     → walk_field light_source (((2 ∷ []) ++ (triple_bytes a b c ++ triple_bytes d e g ++ bytes_f h ++ option_bytes v)) ++ r) ≡ got (map pattern_of (a ∷ b ∷ c ∷ d ∷ e ∷ g ∷ h ∷ option_numbers v)) r
 unfolding walk_field read_below triple_bytes option_bytes walk_items walk_item read_many read32 bytes32
-spot_walk a b c d e g h optional.None r = refl
-spot_walk a b c d e g h (optional.Some x) r = refl
+spot_walk a b c d e g h None r = refl
+spot_walk a b c d e g h (Some x) r = refl
 
 light_walk : (v : LightSource) (r : List ℕ) → walk_field light_source (light_source_bytes v ++ r) ≡ got (map pattern_of (light_numbers v)) r
 unfolding walk_field read_below light_source_bytes distant_light_bytes point_light_bytes spot_light_bytes triple_bytes walk_items walk_item read_many read32 bytes32

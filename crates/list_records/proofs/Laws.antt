@@ -1,7 +1,7 @@
 -- The tables record by record; and the law that for children that count, with their names, the records are those of their primitives. Assumes nothing.
+use Rattle.std.specs.Prelude.{None, Option}
 use mathlib.Core.Path.{◌≡◌, refl, sym, ap, ap₂, ◌∙◌}
 use mathlib.Core.List.{List, [], ◌∷◌, ◌++◌, map, append-nil, append_assoc}
-use mathlib.Core.Option.{Option, none}
 use Prim.Native.Nat.{ℕ, zero, suc, ◌+◌, ◌≤◌, ◌<◌}
 use native.Mathlib.Numerals.{add-one}
 use native.Mathlib.Omega.{arith}
@@ -31,7 +31,7 @@ take-map g zero l = refl
 take-map g (suc k) [] = refl
 take-map {B} g (suc k) (x ∷ xs) = ap {B = List B} (λ l. g x ∷ l) (take-map g k xs)
 
-own_at : (g : ℕ → value.Child) (l : List ℕ) (j : ℕ) → j < length l → get_or (owns_of (map g l)) j none ≡ (g (get_or l j 0)).own
+own_at : (g : ℕ → value.Child) (l : List ℕ) (j : ℕ) → j < length l → get_or (owns_of (map g l)) j None ≡ (g (get_or l j 0)).own
 own_at g [] j h = absurd (omega arith)
 own_at g (x ∷ xs) zero h = refl
 own_at g (x ∷ xs) (suc j) h = own_at g xs j (omega arith)
@@ -86,7 +86,7 @@ module _ (frame : Frame) (s nodes names : List ℕ) where
 
   -- a child that was read, under the name of record j
   pub same_record : (c : Child) (name : ResultName) (i j : ℕ) → child_is s c ≡ child_at frame s i → label_is s name ≡ entry_is s (get_or names j 0)
-      → primitive_at s names j name c ≡ record_at frame s names i j
+      → primitive_at s (take j names) name c ≡ record_at frame s names i j
   same_record c name i j e q = ap₂ (λ (x : value.Child) (l : Label). built_of x l (labels_is s names j)) e q
 
   children_suc : (j : ℕ) → j < length nodes → children_is frame s nodes (suc j) ≡ children_is frame s nodes j ++ (child_at frame s (get_or nodes j 0) ∷ [])
@@ -98,7 +98,7 @@ module _ (frame : Frame) (s nodes names : List ℕ) where
         take-map (λ (c : value.Child). c.own) j (children_is frame s nodes n)
         ∙ ap owns_of (take-map (child_at frame s) j (take n nodes) ∙ ap (map (child_at frame s)) (take-take j n nodes h))
 
-    own_here : (j : ℕ) → j < n → get_or (owns_of (children_is frame s nodes n)) j none ≡ (child_at frame s (get_or nodes j 0)).own
+    own_here : (j : ℕ) → j < n → get_or (owns_of (children_is frame s nodes n)) j None ≡ (child_at frame s (get_or nodes j 0)).own
     own_here j h =
         own_at (child_at frame s) (take n nodes) j (omega (arith, length-take-le n nodes long))
         ∙ ap (λ (i : ℕ). (child_at frame s i).own) (get_or-take n nodes j 0 h)
@@ -173,3 +173,11 @@ module _ (frame : Frame) (s nodes names nodes' names' : List ℕ) (n : ℕ) (p :
 pub measures_none : (frame : Frame) (s nodes names sizes : List ℕ) → length sizes ≡ 512 → Measures frame s nodes names sizes 0 0
 unfolding records_up_to sizes_up_to
 measures_none frame s nodes names sizes long = record { sizes = refl; total = refl; small = omega arith; long = long }
+
+-- The first nodes and names of the tables, by themselves
+
+pub records_first : (frame : Frame) (s nodes names : List ℕ) (n : ℕ) → n ≤ length nodes
+    → records_up_to frame s (take n nodes) (take n names) (length (take n nodes)) ≡ records_up_to frame s nodes names n
+records_first frame s nodes names n h =
+    rw (length-take-le n nodes h)
+    (records_kept frame s nodes names (take n nodes) (take n names) n (take-take n n nodes (omega arith)) (take-take n n names (omega arith)) n (omega arith))

@@ -1,6 +1,5 @@
 -- What a table of nodes and a table of names stand for, record by record. Definitions only.
-use Rattle.std.specs.Prelude.{ℕ, zero, suc, ◌*◌, ◌≤◌, ◌<◌, ◌≡◌, List, [], ◌∷◌, ◌++◌, map, get_or, length, take}
-use Rattle.std.proofs.Math.Option.{none}
+use Rattle.std.specs.Prelude.{ℕ, zero, suc, ◌*◌, ◌≤◌, ◌<◌, ◌≡◌, List, [], ◌∷◌, ◌++◌, map, get_or, length, take, None}
 use Rattle.num.specs.Constants.{plus_zero}
 use Rattle.tree.specs.Kinds.{Primitive, Tile, map_kind}
 use Rattle.tree.specs.List.{primitive_bytes}
@@ -19,8 +18,8 @@ nobody =
     record {
       rect = record { left = plus_zero; top = plus_zero; right = plus_zero; bottom = plus_zero };
       color_interpolation = LinearRGB;
-      own = none;
-      kind = Tile none;
+      own = None;
+      kind = Tile None;
     }
 
 abbrev pub child_in : Step → Child

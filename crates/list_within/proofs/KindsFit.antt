@@ -1,11 +1,15 @@
 -- Every kind that is made of an accepted node is within the layout of lists: f32 holds its numbers, its counts are small, its texts fit.
 -- Assumes nothing.
+use Rattle.answer.specs.declared.Refusal.{Refusal}
+use Rattle.tree.specs.declared.DisplacementMap.{DisplacementMap}
+use Rattle.tree.specs.declared.SpecularLighting.{SpecularLighting}
+use Rattle.geom.specs.declared.Rect.{Rect}
+use Rattle.std.specs.Prelude.{Err, None, Ok, Option, Result, Some, ℕ}
 use Prim.Native.Nat.{ℕ, ◌≤◌}
 use native.Mathlib.Omega.{arith}
 use mathlib.Core.Path.{refl, sym, subst}
 use mathlib.Core.Bool.{◌&&◌}
 use mathlib.Core.List.{List, [], ◌∷◌, ◌++◌, map}
-use mathlib.Core.Option.{Option, none, some}
 use lib.Dec.{T, eqb}
 use lib.ListN.{length, length-map}
 use lib.Ieee.{Float, binary32, fits, mul}
@@ -20,8 +24,6 @@ use Rattle.num.specs.Narrowed.{or_zero}
 use Rattle.num.specs.Sign.{near_zero, positive}
 use Rattle.num.proofs.Finite.{or_zero_fits}
 use Rattle.geom.specs.declared.Size.{Size}
-use Rattle.geom.specs.declared.MaybeRect.{MaybeRect}
-use Rattle.geom.specs.declared.MaybeRect.TheVariants as rect
 use Rattle.svgtree.specs.Values.{Value, absent, text_value, number_value, numbers_value, length_value, color_value, tries_value, Node}
 use Rattle.svgtree.specs.Readers.{text_in, numbers_in, value_under, text_of, number_of, numbers_of, tries_of}
 use Rattle.field_tests.specs.Tests.{all}
@@ -30,8 +32,8 @@ use Rattle.tree.specs.Kinds.{ColorMatrixKind, Matrix, Saturate, HueRotate, Lumin
 use Rattle.tree.specs.declared.LightSource.{LightSource}
 use Rattle.tree.specs.declared.MorphologyOperator.{MorphologyOperator}
 use Rattle.region.specs.declared.Frame.{Frame}
-use Rattle.units.specs.declared.Units.{Units}
-use Rattle.units.specs.declared.Units.TheVariants as units
+use Rattle.svgtree.specs.declared.Units.{Units}
+use Rattle.svgtree.specs.declared.Units.TheVariants as units
 use Rattle.subregion.specs.Subregions.{scale_in, scale_of}
 use Rattle.fe.specs.Attributes.{number_or}
 use Rattle.child.specs.Child.{in_of}
@@ -45,26 +47,16 @@ use Rattle.fe_blur.specs.GaussianBlur.{deviation, numbers_or_default, gaussian_b
 use Rattle.fe_flood.specs.Flood.{alpha_opacity, flood_color, flood_of, transparent_black}
 use Rattle.fe_blur.specs.Offset.{offset_fields_of}
 use Rattle.fe_blur.specs.DropShadow.{drop_shadow_of}
-use Rattle.fe_light.specs.declared.light_source.MaybeLight.{MaybeLight}
-use Rattle.fe_light.specs.declared.light_source.MaybeLight.TheVariants as light
-use Rattle.fe_light.specs.declared.specular_lighting.MaybeSpecularLighting.{MaybeSpecularLighting}
-use Rattle.fe_light.specs.declared.specular_lighting.MaybeSpecularLighting.TheVariants as specular
 use Rattle.fe_light.specs.LightSource.{light_source_of}
 use Rattle.fe_light.specs.DiffuseLighting.{diffuse_with}
 use Rattle.fe_light.specs.SpecularLighting.{exponent_in_range, specular_with}
 use Rattle.fe_light.specs.Ranges.{light_numbers}
 use Rattle.fe_kernel.specs.declared.order.Order.{Order}
-use Rattle.fe_kernel.specs.declared.target.MaybeTarget.{MaybeTarget}
-use Rattle.fe_kernel.specs.declared.target.MaybeTarget.TheVariants as target
 use Rattle.fe_kernel.specs.Order.{order_of}
 use Rattle.fe_kernel.specs.Target.{target_of}
 use Rattle.fe_kernel.specs.Divisor.{million, kernel_sum, default_divisor, divisor_of}
 use Rattle.fe_kernel.specs.ConvolveMatrix.{matrix_with, convolve_with, convolve_of, convolve_matrix_of, kernel_matrix_of}
 use Rattle.fe.specs.declared.pair.Pair.{Pair}
-use Rattle.fe.specs.declared.pair.MaybePair.{MaybePair}
-use Rattle.fe.specs.declared.pair.MaybePair.TheVariants as maybe-pair
-use Rattle.fe_displacement_map.specs.declared.MaybeDisplacementMap.{MaybeDisplacementMap}
-use Rattle.fe_displacement_map.specs.declared.MaybeDisplacementMap.TheVariants as displacement
 use Rattle.fe.specs.Pairs.{pair_of, pair_in, signs_clear, if_positive}
 use Rattle.fe_morphology.specs.Morphology.{ones_for_zeros, unit_radius, scaled_radius, radius_of, morphology_with, morphology_operator_of}
 use Rattle.fe_displacement_map.specs.DisplacementMap.{box_sum, displacement_with, displacement_map_of}
@@ -104,8 +96,8 @@ nodes_fit [] h = tt
 nodes_fit (n ∷ ns) h = (node_fits n h.0, nodes_fit ns h.1)
 
 abbrev ListFit : Option (List Float) → Type 0
-ListFit none = Unit {0}
-ListFit (some xs) = NumbersFit xs
+ListFit None = Unit {0}
+ListFit (Some xs) = NumbersFit xs
 
 numbers_in_lem : (v : Value) → AcceptedValue v → ListFit (numbers_in v)
 unfolding numbers_in
@@ -156,14 +148,14 @@ color_within LuminanceToAlpha h = tt
 -- ---- feComponentTransfer
 
 table_within : (o : Option (List Float)) → ListFit o → length (or_empty o) ≤ 1024
-table_within none h = omega arith
-table_within (some xs) h = h.1
+table_within None h = omega arith
+table_within (Some xs) h = h.1
 
 function_within : (n : Node) → AcceptedNode n → OptionHolds TransferWithin (transfer_function_of n)
 unfolding transfer_function_of
 function_within n h =
     let t = table_within (numbers_of n ids.aid_table_values) (numbers_of_lem n h ids.aid_table_values) in
-    keyword_holds (OptionHolds TransferWithin) _ none (text_of n ids.aid_type) (tt and t and t and tt and tt and tt) tt
+    keyword_holds (OptionHolds TransferWithin) _ None (text_of n ids.aid_type) (tt and t and t and tt and tt and tt) tt
 
 each_accepted : (ns : List Node) → EachAccepted ns → Each AcceptedNode ns
 each_accepted [] h = tt
@@ -188,7 +180,7 @@ flood_fit = record { numbers = (zero_fits, tt); counts = tt; inputs = tt }
 
 -- ---- lights
 
-abbrev LightFit : MaybeLight → Type 0
+abbrev LightFit : Option LightSource → Type 0
 LightFit m = LightHolds (λ (l : LightSource). Each Fits (light_numbers l)) m
 
 source_fit : (children : List Node) → EachAccepted children → LightFit (light_source_of children)
@@ -197,36 +189,36 @@ source_fit children c =
 
 -- ---- pairs
 
-abbrev PairFit : MaybePair → Type 0
+abbrev PairFit : Option Pair → Type 0
 PairFit m = PairHolds Fits m
 
-if_positive_lem : (p : Pair) → PairFit (maybe-pair.Is p) → PairFit (if_positive p)
+if_positive_lem : (p : Pair) → PairFit (Some p) → PairFit (if_positive p)
 unfolding if_positive
-if_positive_lem p h = choose PairFit (positive p.x && positive p.y) (maybe-pair.Is p) maybe-pair.No h tt
+if_positive_lem p h = choose PairFit (positive p.x && positive p.y) (Some p) None h tt
 
 frequency_fit : (o : Option (List Float)) → ListFit o → PairFit (frequency_of o)
-frequency_fit none h = (zero_fits, zero_fits)
-frequency_fit (some xs) h = choose PairFit (signs_clear (pair_in xs)) (if_positive (pair_in xs)) (maybe-pair.Is (pair_of plus_zero plus_zero)) (if_positive_lem (pair_in xs) (pair_holds Fits zero_fits xs h.0)) (zero_fits, zero_fits)
+frequency_fit None h = (zero_fits, zero_fits)
+frequency_fit (Some xs) h = choose PairFit (signs_clear (pair_in xs)) (if_positive (pair_in xs)) (Some (pair_of plus_zero plus_zero)) (if_positive_lem (pair_in xs) (pair_holds Fits zero_fits xs h.0)) (zero_fits, zero_fits)
 
 -- ---- the scale
 
 abbrev SizeFit : Size → Type 0
 SizeFit z = Fits z.width × Fits z.height
 
-scale_in_lem : (u : Units) (b : MaybeRect) → SizeFit (scale_in u b)
+scale_in_lem : (u : Units) (b : Option Rect) → SizeFit (scale_in u b)
 scale_in_lem units.UserSpaceOnUse b = (one_fits, one_fits)
-scale_in_lem units.ObjectBoundingBox (rect.Is r) = (sub-fits binary32 r.right r.left, sub-fits binary32 r.bottom r.top)
-scale_in_lem units.ObjectBoundingBox rect.No = (one_fits, one_fits)
+scale_in_lem units.ObjectBoundingBox (Some r) = (sub-fits binary32 r.right r.left, sub-fits binary32 r.bottom r.top)
+scale_in_lem units.ObjectBoundingBox None = (one_fits, one_fits)
 
 scale_fit : (f : Frame) → SizeFit (scale_of f)
 unfolding scale_of
 scale_fit f = scale_in_lem f.units f.bbox
 
 radius_fit : (z : Size) → SizeFit z → (o : Option (List Float)) → PairFit (radius_of o z)
-radius_fit z k none = (k.0, k.1)
-radius_fit z k (some xs) =
+radius_fit z k None = (k.0, k.1)
+radius_fit z k (Some xs) =
     let p = ones_for_zeros (pair_in xs) in
-    choose PairFit (signs_clear p) (if_positive (scaled_radius p z)) (maybe-pair.Is (unit_radius z))
+    choose PairFit (signs_clear p) (if_positive (scaled_radius p z)) (Some (unit_radius z))
     (if_positive_lem (scaled_radius p z) (mul-fits binary32 p.x z.width, mul-fits binary32 p.y z.height))
     (k.0, k.1)
 
@@ -293,61 +285,61 @@ module _ (f : Frame) (n : Node) (children : List Node) (ok : AcceptedNode n) (cs
   -- the kernel
 
   abbrev DataFit : Option ConvolveMatrixData → Type 0
-  DataFit none = Unit {0}
-  DataFit (some m) = NumbersFit m.numbers
+  DataFit None = Unit {0}
+  DataFit (Some m) = NumbersFit m.numbers
 
   abbrev FieldsFit : Option ConvolveMatrixFields → Type 0
-  FieldsFit none = Unit {0}
-  FieldsFit (some v) = Each Fits (v.matrix.numbers ++ (v.divisor ∷ v.bias ∷ [])) × (length v.matrix.numbers ≤ 1024)
+  FieldsFit None = Unit {0}
+  FieldsFit (Some v) = Each Fits (v.matrix.numbers ++ (v.divisor ∷ v.bias ∷ [])) × (length v.matrix.numbers ≤ 1024)
 
-  matrix_with_lem : (o : Order) (x y : MaybeTarget) (xs : List Float) → NumbersFit xs → DataFit (matrix_with o x y xs)
-  matrix_with_lem o (target.Is x) (target.Is y) xs h = choose DataFit (eqb (length xs) _) (some (record { target_x = x; target_y = y; columns = o.columns; rows = o.rows; numbers = xs })) none h tt
-  matrix_with_lem o (target.Is x) target.No xs h = tt
-  matrix_with_lem o target.No y xs h = tt
+  matrix_with_lem : (o : Order) (x y : Option ℕ) (xs : List Float) → NumbersFit xs → DataFit (matrix_with o x y xs)
+  matrix_with_lem o (Some x) (Some y) xs h = choose DataFit (eqb (length xs) _) (Some (record { target_x = x; target_y = y; columns = o.columns; rows = o.rows; numbers = xs })) None h tt
+  matrix_with_lem o (Some x) None xs h = tt
+  matrix_with_lem o None y xs h = tt
 
   convolve_with_lem : (d : Float) (m : Option ConvolveMatrixData) → Fits d → DataFit m → FieldsFit (convolve_with n d m)
-  convolve_with_lem d none k h = tt
-  convolve_with_lem d (some m) k h = (each_append Fits m.numbers (d ∷ number_or n ids.aid_bias plus_zero ∷ []) h.0 (k, (zero_or n ok ids.aid_bias, tt)), h.1)
+  convolve_with_lem d None k h = tt
+  convolve_with_lem d (Some m) k h = (each_append Fits m.numbers (d ∷ number_or n ids.aid_bias plus_zero ∷ []) h.0 (k, (zero_or n ok ids.aid_bias, tt)), h.1)
 
   convolve_of_lem : (o : Option (List Float)) → ListFit o → FieldsFit (convolve_of n o)
-  convolve_of_lem none h = tt
-  convolve_of_lem (some xs) h =
-      choose FieldsFit (near_zero (divisor_of n xs)) none (convolve_with n (divisor_of n xs) (kernel_matrix_of n xs)) tt
+  convolve_of_lem None h = tt
+  convolve_of_lem (Some xs) h =
+      choose FieldsFit (near_zero (divisor_of n xs)) None (convolve_with n (divisor_of n xs) (kernel_matrix_of n xs)) tt
       (convolve_with_lem (divisor_of n xs) (kernel_matrix_of n xs) (number_or_lem Fits n (node_fits n ok) ids.aid_divisor (default_divisor xs) (divisor_fit xs))
       (matrix_with_lem (order_of n) (target_of (number_of n ids.aid_target_x) (order_of n).columns) (target_of (number_of n ids.aid_target_y) (order_of n).rows) xs h))
 
   convolve_made_lem : (o : Option ConvolveMatrixFields) → FieldsFit o → MadeFit (convolve_made n o)
   unfolding inputs_of
-  convolve_made_lem none h = flood_fit
-  convolve_made_lem (some v) h = record { numbers = h.0; counts = h.1; inputs = (a, tt) }
+  convolve_made_lem None h = flood_fit
+  convolve_made_lem (Some v) h = record { numbers = h.0; counts = h.1; inputs = (a, tt) }
 
-  diffuse_made_lem : (m : MaybeLight) → LightFit m → MadeFit (diffuse_made n (diffuse_with n m))
+  diffuse_made_lem : (m : Option LightSource) → LightFit m → MadeFit (diffuse_made n (diffuse_with n m))
   unfolding inputs_of
-  diffuse_made_lem (light.Is l) h = record { numbers = one_or n ok ids.aid_surface_scale and one_or n ok ids.aid_diffuse_constant and h; counts = tt; inputs = (a, tt) }
-  diffuse_made_lem light.No h = flood_fit
+  diffuse_made_lem (Some l) h = record { numbers = one_or n ok ids.aid_surface_scale and one_or n ok ids.aid_diffuse_constant and h; counts = tt; inputs = (a, tt) }
+  diffuse_made_lem None h = flood_fit
 
-  specular_made_lem : (m : MaybeLight) → LightFit m → MadeFit (specular_made n (specular_with n m))
+  specular_made_lem : (m : Option LightSource) → LightFit m → MadeFit (specular_made n (specular_with n m))
   unfolding inputs_of
-  specular_made_lem (light.Is l) h =
-      choose (λ (m : MaybeSpecularLighting). MadeFit (specular_made n m)) (exponent_in_range (number_or n ids.aid_specular_exponent one)) _ specular.No
+  specular_made_lem (Some l) h =
+      choose (λ (m : Option SpecularLighting). MadeFit (specular_made n m)) (exponent_in_range (number_or n ids.aid_specular_exponent one)) _ None
       (record { numbers = one_or n ok ids.aid_surface_scale and one_or n ok ids.aid_specular_constant and one_or n ok ids.aid_specular_exponent and h; counts = tt; inputs = (a, tt) })
       flood_fit
-  specular_made_lem light.No h = flood_fit
+  specular_made_lem None h = flood_fit
 
-  morphology_made_lem : (o : MorphologyOperator) (m : MaybePair) → PairFit m → MadeFit (morphology_made n (morphology_with o m))
+  morphology_made_lem : (o : MorphologyOperator) (m : Option Pair) → PairFit m → MadeFit (morphology_made n (morphology_with o m))
   unfolding inputs_of
-  morphology_made_lem o (maybe-pair.Is p) h = record { numbers = h.0 and h.1 and tt; counts = tt; inputs = (a, tt) }
-  morphology_made_lem o maybe-pair.No h = tt
+  morphology_made_lem o (Some p) h = record { numbers = h.0 and h.1 and tt; counts = tt; inputs = (a, tt) }
+  morphology_made_lem o None h = tt
 
-  turbulence_made_lem : (m : MaybePair) → PairFit m → MadeFit (turbulence_made (turbulence_with n m))
+  turbulence_made_lem : (m : Option Pair) → PairFit m → MadeFit (turbulence_made (turbulence_with n m))
   unfolding inputs_of
-  turbulence_made_lem (maybe-pair.Is p) h = record { numbers = h.0 and h.1 and tt; counts = tt; inputs = tt }
-  turbulence_made_lem maybe-pair.No h = tt
+  turbulence_made_lem (Some p) h = record { numbers = h.0 and h.1 and tt; counts = tt; inputs = tt }
+  turbulence_made_lem None h = tt
 
   displacement_made_lem : MadeFit (displacement_made n (displacement_map_of n (scale_of f)))
   unfolding inputs_of
   displacement_made_lem =
-      choose (λ (m : MaybeDisplacementMap). MadeFit (displacement_made n m)) (finite (box_sum (scale_of f))) (displacement.Is (displacement_with n (box_sum (scale_of f)))) (displacement.Refused Unrepresentable)
+      choose (λ (m : Result DisplacementMap Refusal). MadeFit (displacement_made n m)) (finite (box_sum (scale_of f))) (Ok (displacement_with n (box_sum (scale_of f)))) (Err Unrepresentable)
       (record { numbers = mul-fits binary32 (number_or n ids.aid_scale plus_zero) _ and tt; counts = tt; inputs = (a, (b, tt)) })
       tt
 

@@ -1,10 +1,10 @@
 -- Names fit: a made name is ASCII and short, and what an input resolves to is a text of the sheet or an earlier name. Assumes nothing.
+use Rattle.std.specs.Prelude.{None, Option, Some}
 use Prim.Native.Nat.{ℕ, zero, suc, ◌+◌, ◌*◌, ◌/◌, ◌%◌, ◌≤◌, ◌<◌}
 use native.Mathlib.Omega.{arith}
 use mathlib.Core.Path.{◌≡◌, refl, sym, ap, ◌∙◌, subst}
 use mathlib.Core.Bool.{Bool, true, false, cond, ◌&&◌}
 use mathlib.Core.List.{List, [], ◌∷◌, ◌++◌, map}
-use mathlib.Core.Option.{Option, none, some}
 use lib.Dec.{leb, ltb}
 use lib.ListN.{length, length-append}
 use borrow.Author.Tests.{le-leb, lt-ltb, ltb-true, ltb-false}
@@ -26,11 +26,11 @@ abbrev Small : List ℕ → Type 0
 Small [] = Unit {0}
 Small (b ∷ t) = (b ≤ 127) × Small t
 
-run_small : (t : List ℕ) → Small t → utf8_run (some []) t ≡ some []
+run_small : (t : List ℕ) → Small t → utf8_run (Some []) t ≡ Some []
 unfolding utf8_run utf8_step
 run_small [] h = refl
 run_small (b ∷ t) h =
-    let e : utf8_starting b utf8_table ≡ some [] = row_hit b [] _ 0 127 (omega arith) h.0 in
+    let e : utf8_starting b utf8_table ≡ Some [] = row_hit b [] _ 0 127 (omega arith) h.0 in
     ap (λ (q : Option (List ByteRange)). utf8_run q t) e ∙ run_small t h.1
 
 small_utf8 : (t : List ℕ) → Small t → utf8 t ≡ true
@@ -119,12 +119,12 @@ module _ (i : ℕ) (st : Results) (f : StateFit i st) (few : i < 512) where
       omega (arith, a, b, f.low, f.count)
 
   pub label_fit : (o : Option Name) → OptionFit o → text_fits (name_of (label st o)) ≡ true
-  label_fit (some t) h = h
-  label_fit none h = made_fits (next_free st) (omega (arith, next_low, few))
+  label_fit (Some t) h = h
+  label_fit None h = made_fits (next_free st) (omega (arith, next_low, few))
 
   counted_low : (o : Option Name) → counter_after st o ≤ 1 + 513 * suc i
-  counted_low (some t) = omega (arith, f.low)
-  counted_low none = omega (arith, next_low, few)
+  counted_low (Some t) = omega (arith, f.low)
+  counted_low None = omega (arith, next_low, few)
 
   pub after_fit : (o : Option Name) → OptionFit o → StateFit (suc i) (after st o)
   after_fit o h =
@@ -165,8 +165,8 @@ parse_fit t h =
 
 resolve_fit : (ns : List Name) → NamesFit ns → (o : Option Name) → OptionFit o → InputFit (resolve ns o)
 unfolding resolve
-resolve_fit ns h none k = previous_fit ns h
-resolve_fit ns h (some t) k = settled_fit ns (parse_in t) h (parse_fit t k)
+resolve_fit ns h None k = previous_fit ns h
+resolve_fit ns h (Some t) k = settled_fit ns (parse_in t) h (parse_fit t k)
 
 pub inputs_fit_lem : (ns : List Name) → NamesFit ns → (os : List (Option Name)) → OptionsFit os → inputs_fit form1 (map (resolve ns) os) ≡ true
 unfolding inputs_fit

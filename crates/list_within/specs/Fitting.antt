@@ -1,7 +1,6 @@
 -- What the layout of lists asks of numbers and texts that a kind holds: texts have at most 255 bytes and are UTF-8, numbers are what an f32 can be,
 -- and a list of them has at most 1,024. Definitions only.
-use Rattle.std.specs.Prelude.{◌≤◌, ◌≡◌, true, List, [], ◌∷◌, length, Float}
-use Rattle.std.proofs.Math.Option.{Option, none, some}
+use Rattle.std.specs.Prelude.{◌≤◌, ◌≡◌, true, List, [], ◌∷◌, length, Float, None, Option, Some}
 use Rattle.tree.specs.Input.{Name}
 use Rattle.list_read.specs.Records.{text_fits}
 use Rattle.list_read_back.specs.Within.{Fits}
@@ -12,8 +11,8 @@ NumbersFit xs = Each Fits xs × (length xs ≤ 1024)
 
 -- a text that may be absent, and a list of such
 abbrev pub OptionFit : Option Name → Type 0
-OptionFit none = Unit {0}
-OptionFit (some t) = text_fits t ≡ true
+OptionFit None = Unit {0}
+OptionFit (Some t) = text_fits t ≡ true
 
 abbrev pub OptionsFit : List (Option Name) → Type 0
 OptionsFit [] = Unit {0}

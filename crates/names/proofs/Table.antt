@@ -1,8 +1,12 @@
--- A `match` over numbers against a function of them. That an arm's value is the function's at each number of the arm is one test, which is computed.
+-- A `match` from numbers to kinds against a function of them. That the value of the last arm is the function's at each number of a run is one test,
+-- which is computed.
 -- Assumes nothing.
 use mathlib.Core.Path.{◌≡◌, refl, sym, ◌∙◌, ap}
-use mathlib.Core.Bool.{Bool, true, false, ◌&&◌, ◌||◌}
-use mathlib.Core.Logic.{inl, inr}
+use Rattle.std.specs.Prelude.{Option, Some, None}
+use Rattle.sheet_fields.specs.declared.kind.ValueKind.{ValueKind}
+use Rattle.sheet_fields.specs.declared.kind.ValueKind.TheVariants as kind
+use Rattle.sheet_fields.specs.Kinds.{byte_of}
+use mathlib.Core.Bool.{Bool, true, false, cond, ◌&&◌, ◌||◌}
 use mathlib.Core.List.{List, [], ◌∷◌}
 use Prim.Native.Nat.{ℕ, zero, suc, ◌+◌, ◌≤◌, ◌<◌}
 use native.Mathlib.Omega.{arith}
@@ -36,39 +40,58 @@ not_key (ks ∷ arms) x none t = go (has_key ks x) (hit ks x) t (not_key arms x 
     go true h u later = none.1 (h tt)
     go false h u later = later u
 
-module _ (f : ℕ → ℕ) (v : ℕ) where
-  -- an arm with these keys
+-- whether two kinds that are asked are the same
 
-  abbrev value_at : List ℕ → Bool
-  value_at [] = true
-  value_at (k ∷ ks) = eqb v (f k) && value_at ks
+abbrev mark : Option ValueKind → ℕ
+mark None = 0
+mark (Some k) = suc (byte_of k)
 
-  at_key : (k x : ℕ) → T (eqb v (f k)) → x ≡ k → v ≡ f x
-  at_key k x t e = eqb→eq v (f k) t ∙ ap f (sym e)
+abbrev kind_marked : ℕ → Option ValueKind
+kind_marked m =
+    cond (eqb m 1) (Some kind.Unreadable)
+    (cond (eqb m 2) (Some kind.Text)
+    (cond (eqb m 3) (Some kind.Number)
+    (cond (eqb m 4) (Some kind.Numbers)
+    (cond (eqb m 5) (Some kind.Length)
+    (cond (eqb m 6) (Some kind.Color)
+    (cond (eqb m 7) (Some kind.Tries)
+    (cond (eqb m 8) (Some kind.Typed) None)))))))
 
-  pub one_of : (ks : List ℕ) (x : ℕ) → T (value_at ks) → OneOf ks x → v ≡ f x
-  one_of [] x t o = absurd o
-  one_of (k ∷ []) x t e = at_key k x (and_left (eqb v (f k)) true t) e
-  one_of (k ∷ j ∷ ks) x t (inl e) = at_key k x (and_left (eqb v (f k)) (value_at (j ∷ ks)) t) e
-  one_of (k ∷ j ∷ ks) x t (inr o) = one_of (j ∷ ks) x (and_right (eqb v (f k)) (value_at (j ∷ ks)) t) o
+mark_kept : (a : Option ValueKind) → kind_marked (mark a) ≡ a
+mark_kept None = refl
+mark_kept (Some kind.Unreadable) = refl
+mark_kept (Some kind.Text) = refl
+mark_kept (Some kind.Number) = refl
+mark_kept (Some kind.Numbers) = refl
+mark_kept (Some kind.Length) = refl
+mark_kept (Some kind.Color) = refl
+mark_kept (Some kind.Tries) = refl
+mark_kept (Some kind.Typed) = refl
 
+abbrev pub same : Option ValueKind → Option ValueKind → Bool
+same a b = eqb (mark a) (mark b)
+
+pub same→eq : (a b : Option ValueKind) → T (same a b) → a ≡ b
+same→eq a b t = sym (mark_kept a) ∙ ap kind_marked (eqb→eq (mark a) (mark b) t) ∙ mark_kept b
+
+module _ (f : ℕ → Option ValueKind) (v : Option ValueKind) where
   -- the n numbers from i on that are no arm's keys
 
   abbrev pub value_from : List (List ℕ) → (i n : ℕ) → Bool
   value_from arms i zero = true
-  value_from arms i (suc n) = (is_key arms i || eqb v (f i)) && value_from arms (suc i) n
+  value_from arms i (suc n) = (is_key arms i || same v (f i)) && value_from arms (suc i) n
 
   module _ (arms : List (List ℕ)) (x : ℕ) (none : NoneOf arms x) where
-    either : (b : Bool) → (T b → ⊥) → T (b || eqb v (f x)) → v ≡ f x
+    either : (b : Bool) → (T b → ⊥) → T (b || same v (f x)) → v ≡ f x
     either true not t = absurd (not tt)
-    either false not t = eqb→eq v (f x) t
+    either false not t = same→eq v (f x) t
 
     pub ranged : (i n : ℕ) → T (value_from arms i n) → i ≤ x → x < i + n → v ≡ f x
     ranged i zero t l h = absurd (omega arith)
-    ranged i (suc n) t l h = go (ltb i x) refl (ranged (suc i) n (and_right (is_key arms i || eqb v (f i)) (value_from arms (suc i) n) t))
+    ranged i (suc n) t l h = go (ltb i x) refl (ranged (suc i) n (and_right (is_key arms i || same v (f i)) (value_from arms (suc i) n) t))
       where
         go : (b : Bool) → ltb i x ≡ b → (suc i ≤ x → x < suc i + n → v ≡ f x) → v ≡ f x
         go true q ih = ih (omega (arith, ltb-true i x q)) (omega arith)
         go false q ih =
             let e : i ≡ x = omega (arith, ltb-false i x q) in
-            either (is_key arms x) (not_key arms x none) (rw e at (and_left (is_key arms i || eqb v (f i)) (value_from arms (suc i) n) t))
+            either (is_key arms x) (not_key arms x none) (rw e at (and_left (is_key arms i || same v (f i)) (value_from arms (suc i) n) t))

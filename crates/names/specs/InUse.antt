@@ -1,5 +1,7 @@
--- The code's constants for elements and attributes, one by one, so that each is proved to have the number of Ids.antt. Definitions only.
-use Rattle.std.specs.Prelude.{ℕ, List, [], ◌∷◌}
+-- The code's constants for elements and attributes, one by one, and that each has the number of Ids.antt. Assumes nothing.
+use Rattle.std.specs.Prelude.{ℕ, List, [], ◌∷◌, ◌≡◌, refl}
+use Rattle.names.specs.declared.aid.TheConstants as aid
+use Rattle.names.specs.declared.eid.TheConstants as eid
 use Rattle.names.specs.Ids.{eid_fe_blend, eid_fe_color_matrix, eid_fe_component_transfer, eid_fe_composite, eid_fe_convolve_matrix, eid_fe_diffuse_lighting, eid_fe_displacement_map, eid_fe_distant_light, eid_fe_drop_shadow}
 use Rattle.names.specs.Ids.{eid_fe_flood, eid_fe_func_a, eid_fe_func_b, eid_fe_func_g, eid_fe_func_r, eid_fe_gaussian_blur, eid_fe_image, eid_fe_merge, eid_fe_morphology, eid_fe_offset, eid_fe_point_light, eid_fe_specular_lighting}
 use Rattle.names.specs.Ids.{eid_fe_spot_light, eid_fe_tile, eid_fe_turbulence, eid_count, aid_amplitude, aid_azimuth, aid_base_frequency, aid_bias, aid_color, aid_color_interpolation_filters, aid_diffuse_constant}
@@ -12,7 +14,7 @@ use Rattle.names.specs.Ids.{aid_target_y, aid_type, aid_values, aid_width, aid_x
 abbrev pub aid_count : ℕ
 aid_count = 211
 
--- the elements' numbers, in their order: the constants of the code are these, one by one (`eid::in_use`)
+-- the elements' numbers, in their order: the constants of the code are these, one by one (`elements_agree`)
 unfoldable pub elements_in_use : List ℕ
 elements_in_use =
     eid_fe_blend ∷ eid_fe_color_matrix ∷ eid_fe_component_transfer ∷ eid_fe_composite ∷ eid_fe_convolve_matrix ∷ eid_fe_diffuse_lighting ∷
@@ -20,7 +22,7 @@ elements_in_use =
     eid_fe_gaussian_blur ∷ eid_fe_image ∷ eid_fe_merge ∷ eid_fe_morphology ∷ eid_fe_offset ∷ eid_fe_point_light ∷ eid_fe_specular_lighting ∷
     eid_fe_spot_light ∷ eid_fe_tile ∷ eid_fe_turbulence ∷ eid_count ∷ []
 
--- the attributes' numbers, likewise (`aid::in_use`)
+-- the attributes' numbers, likewise (`attributes_agree`)
 unfoldable pub attributes_in_use : List ℕ
 attributes_in_use =
     aid_amplitude ∷ aid_azimuth ∷ aid_base_frequency ∷ aid_bias ∷ aid_color ∷ aid_color_interpolation_filters ∷ aid_diffuse_constant ∷
@@ -30,3 +32,12 @@ attributes_in_use =
     aid_radius ∷ aid_result ∷ aid_scale ∷ aid_seed ∷ aid_slope ∷ aid_specular_constant ∷ aid_specular_exponent ∷ aid_std_deviation ∷
     aid_stitch_tiles ∷ aid_surface_scale ∷ aid_table_values ∷ aid_target_x ∷ aid_target_y ∷ aid_type ∷ aid_values ∷ aid_width ∷ aid_x ∷
     aid_x_channel_selector ∷ aid_y ∷ aid_y_channel_selector ∷ aid_z ∷ aid_count ∷ []
+
+-- the code's constants, one by one, have the numbers of Ids.antt
+pub elements_agree : eid.IN_USE ≡ elements_in_use
+unfolding elements_in_use
+elements_agree = refl
+
+pub attributes_agree : aid.IN_USE ≡ attributes_in_use
+unfolding attributes_in_use
+attributes_agree = refl

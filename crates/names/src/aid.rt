@@ -1,6 +1,5 @@
-// Attribute names in use, as the id of an attribute: the place in the source's `AId`, counted from 0.
-ghost use Rattle.std.specs.Prelude.{◌≡◌, get_or};
-ghost use Rattle.names.specs.InUse.{attributes_in_use};
+// Attribute names in use, as the id of an attribute: the place in the source's `AId`, counted from 0. Constants, and no enum: a sheet may have any id,
+// and its readers take any, so an enum would be a narrower type of theirs.
 
 pub const AMPLITUDE: u16 = 1;
 
@@ -117,7 +116,8 @@ pub const Z: u16 = 210;
 // How many names `AId` declares.
 pub const COUNT: u16 = 211;
 
-const IN_USE: [u16; 57] = [
+// The constants above, one by one: each has the number of the same name in specs/ (theorem `attributes_agree`).
+pub const IN_USE: [u16; 57] = [
     AMPLITUDE,
     AZIMUTH,
     BASE_FREQUENCY,
@@ -176,10 +176,3 @@ const IN_USE: [u16; 57] = [
     Z,
     COUNT,
 ];
-
-// The i-th of the constants above, 0 past the last: what ties each of them to the number of the same name in specs/.
-pub fn in_use(i: usize) -> u16
-    ensures { result ≡ get_or attributes_in_use i 0 }
-{
-    if i < 57 { IN_USE[i] } else { 0 }
-}

@@ -1,6 +1,5 @@
 // Element names in use, as the tag byte of a node: 1 + the place in the source's `EId`, counted from 0. Tag 0 is a node without a name.
-ghost use Rattle.std.specs.Prelude.{◌≡◌, get_or};
-ghost use Rattle.names.specs.InUse.{elements_in_use};
+// Constants, and no enum: a sheet may have any tag, and its readers take any, so an enum would be a narrower type of theirs.
 
 pub const FE_BLEND: u8 = 6;
 
@@ -53,7 +52,8 @@ pub const FE_TURBULENCE: u8 = 30;
 // How many names `EId` declares, which is also the largest tag byte.
 pub const COUNT: u8 = 53;
 
-const IN_USE: [u8; 25] = [
+// The constants above, one by one: each has the number of the same name in specs/ (theorem `elements_agree`).
+pub const IN_USE: [u8; 25] = [
     FE_BLEND,
     FE_COLOR_MATRIX,
     FE_COMPONENT_TRANSFER,
@@ -80,10 +80,3 @@ const IN_USE: [u8; 25] = [
     FE_TURBULENCE,
     COUNT,
 ];
-
-// The i-th of the constants above, 0 past the last: what ties each of them to the number of the same name in specs/.
-pub fn in_use(i: usize) -> u8
-    ensures { result ≡ get_or elements_in_use i 0 }
-{
-    if i < 25 { IN_USE[i] } else { 0 }
-}

@@ -4,13 +4,14 @@
 ghost use Rattle.std.specs.Prelude.{◌≡◌};
 ghost use Rattle.names.specs.Kinds.{on_child, on_grandchild, kind_in, kind_at, kind_allowed, tag_ok};
 
-use sheet_fields::kind;
+use sheet_fields::kind::ValueKind;
 
 pub mod aid;
 pub mod eid;
 
-// The kind of value that an id asks on a filter's child; 0 where filter.rs reads no such attribute there.
-fn kind_on_child(id: u16) -> u8
+// The kind of value that an id asks on a filter's child; none where filter.rs reads no such attribute there.
+#[tactic(auto, unfolding(crate::specs::Kinds::kind_in, crate::specs::Kinds::among, crate::specs::Kinds::on_child))]
+fn kind_on_child(id: u16) -> Option<ValueKind>
     ensures { result ≡ kind_in on_child id }
 {
     match id {
@@ -25,7 +26,7 @@ fn kind_on_child(id: u16) -> u8
         | aid::PRESERVE_ALPHA
         | aid::X_CHANNEL_SELECTOR
         | aid::Y_CHANNEL_SELECTOR
-        | aid::STITCH_TILES => kind::TEXT,
+        | aid::STITCH_TILES => Some(ValueKind::Text),
         aid::K1..=aid::K4
         | aid::DIVISOR
         | aid::BIAS
@@ -40,21 +41,24 @@ fn kind_on_child(id: u16) -> u8
         | aid::SPECULAR_CONSTANT
         | aid::SPECULAR_EXPONENT
         | aid::NUM_OCTAVES
-        | aid::SEED => kind::NUMBER,
-        aid::VALUES | aid::KERNEL_MATRIX | aid::RADIUS | aid::BASE_FREQUENCY => kind::NUMBERS,
-        aid::X | aid::Y | aid::WIDTH | aid::HEIGHT => kind::LENGTH,
-        aid::FLOOD_COLOR | aid::LIGHTING_COLOR | aid::COLOR => kind::COLOR,
-        aid::STD_DEVIATION | aid::ORDER => kind::TRIES,
-        _ => 0,
+        | aid::SEED => Some(ValueKind::Number),
+        aid::VALUES | aid::KERNEL_MATRIX | aid::RADIUS | aid::BASE_FREQUENCY => Some(
+            ValueKind::Numbers,
+        ),
+        aid::X | aid::Y | aid::WIDTH | aid::HEIGHT => Some(ValueKind::Length),
+        aid::FLOOD_COLOR | aid::LIGHTING_COLOR | aid::COLOR => Some(ValueKind::Color),
+        aid::STD_DEVIATION | aid::ORDER => Some(ValueKind::Tries),
+        _ => None,
     }
 }
 
 // The same on a child of such a child.
-fn kind_on_grandchild(id: u16) -> u8
+#[tactic(auto, unfolding(crate::specs::Kinds::kind_in, crate::specs::Kinds::among, crate::specs::Kinds::on_grandchild))]
+fn kind_on_grandchild(id: u16) -> Option<ValueKind>
     ensures { result ≡ kind_in on_grandchild id }
 {
     match id {
-        aid::IN | aid::TYPE => kind::TEXT,
+        aid::IN | aid::TYPE => Some(ValueKind::Text),
         aid::SLOPE
         | aid::INTERCEPT
         | aid::AMPLITUDE
@@ -69,14 +73,15 @@ fn kind_on_grandchild(id: u16) -> u8
         | aid::POINTS_AT_Y
         | aid::POINTS_AT_Z
         | aid::SPECULAR_EXPONENT
-        | aid::LIMITING_CONE_ANGLE => kind::NUMBER,
-        aid::TABLE_VALUES => kind::NUMBERS,
-        _ => 0,
+        | aid::LIMITING_CONE_ANGLE => Some(ValueKind::Number),
+        aid::TABLE_VALUES => Some(ValueKind::Numbers),
+        _ => None,
     }
 }
 
 // The same at a depth. Every depth but 0 is taken for 1.
-pub fn kind_at(depth: u8, id: u16) -> u8
+#[tactic(auto, unfolding(crate::specs::Kinds::kind_at))]
+pub fn kind_at(depth: u8, id: u16) -> Option<ValueKind>
     ensures { result ≡ kind_at depth id }
 {
     if depth == 0 {
@@ -86,26 +91,20 @@ pub fn kind_at(depth: u8, id: u16) -> u8
 }
 
 // Whether a value of a kind may stand under an id at a depth.
+#[tactic(auto, unfolding(crate::specs::Kinds::kind_allowed))]
 pub fn kind_allowed(depth: u8, id: u16, kind: u8) -> bool
     ensures { result ≡ kind_allowed depth id kind }
 {
-    let asked = kind_at(depth, id);
-    if asked == 0 {
+    let Some(asked) = kind_at(depth, id) else {
         return false;
+    };
+    match ValueKind::try_from(kind) {
+        Ok(kind) if kind == asked => true,
+        Ok(ValueKind::Typed) => asked == ValueKind::Numbers,
+        Ok(ValueKind::Unreadable) => asked != ValueKind::Text,
+        Ok(ValueKind::Text) => id == aid::LIGHTING_COLOR,
+        _ => false,
     }
-    if kind == asked {
-        return true;
-    }
-    if kind == kind::TYPED {
-        return asked == kind::NUMBERS;
-    }
-    if kind == kind::UNREADABLE {
-        return asked != kind::TEXT;
-    }
-    if id == aid::LIGHTING_COLOR {
-        return kind == kind::TEXT;
-    }
-    false
 }
 
 // Whether a node may have this tag byte.

@@ -3,155 +3,113 @@
 #![tactic(auto)]
 
 use names::{aid, eid};
+use std::fmt::Display;
 use std::io;
 
-fn print_line(rt: &impl Print, name: &str, n: u64) -> io::Result<()> {
-    println!(rt; "{name} {n}")
-}
+// In the source's order.
+const ELEMENTS: [(&str, u8); 24] = [
+    ("FeBlend", eid::FE_BLEND),
+    ("FeColorMatrix", eid::FE_COLOR_MATRIX),
+    ("FeComponentTransfer", eid::FE_COMPONENT_TRANSFER),
+    ("FeComposite", eid::FE_COMPOSITE),
+    ("FeConvolveMatrix", eid::FE_CONVOLVE_MATRIX),
+    ("FeDiffuseLighting", eid::FE_DIFFUSE_LIGHTING),
+    ("FeDisplacementMap", eid::FE_DISPLACEMENT_MAP),
+    ("FeDistantLight", eid::FE_DISTANT_LIGHT),
+    ("FeDropShadow", eid::FE_DROP_SHADOW),
+    ("FeFlood", eid::FE_FLOOD),
+    ("FeFuncA", eid::FE_FUNC_A),
+    ("FeFuncB", eid::FE_FUNC_B),
+    ("FeFuncG", eid::FE_FUNC_G),
+    ("FeFuncR", eid::FE_FUNC_R),
+    ("FeGaussianBlur", eid::FE_GAUSSIAN_BLUR),
+    ("FeImage", eid::FE_IMAGE),
+    ("FeMerge", eid::FE_MERGE),
+    ("FeMorphology", eid::FE_MORPHOLOGY),
+    ("FeOffset", eid::FE_OFFSET),
+    ("FePointLight", eid::FE_POINT_LIGHT),
+    ("FeSpecularLighting", eid::FE_SPECULAR_LIGHTING),
+    ("FeSpotLight", eid::FE_SPOT_LIGHT),
+    ("FeTile", eid::FE_TILE),
+    ("FeTurbulence", eid::FE_TURBULENCE),
+];
 
-fn element(rt: &impl Print, name: &str, tag: u8) -> io::Result<()> {
-    print!(rt; "EId::")?;
-    print_line(rt, name, u64::from(tag))
-}
-
-fn attribute(rt: &impl Print, name: &str, id: u16) -> io::Result<()> {
-    print!(rt; "AId::")?;
-    print_line(rt, name, u64::from(id))
-}
-
-fn elements_1(rt: &impl Print) -> io::Result<()> {
-    element(rt, "FeBlend", eid::FE_BLEND)?;
-    element(rt, "FeColorMatrix", eid::FE_COLOR_MATRIX)?;
-    element(rt, "FeComponentTransfer", eid::FE_COMPONENT_TRANSFER)?;
-    element(rt, "FeComposite", eid::FE_COMPOSITE)?;
-    element(rt, "FeConvolveMatrix", eid::FE_CONVOLVE_MATRIX)?;
-    element(rt, "FeDiffuseLighting", eid::FE_DIFFUSE_LIGHTING)?;
-    element(rt, "FeDisplacementMap", eid::FE_DISPLACEMENT_MAP)?;
-    element(rt, "FeDistantLight", eid::FE_DISTANT_LIGHT)
-}
-
-fn elements_2(rt: &impl Print) -> io::Result<()> {
-    element(rt, "FeDropShadow", eid::FE_DROP_SHADOW)?;
-    element(rt, "FeFlood", eid::FE_FLOOD)?;
-    element(rt, "FeFuncA", eid::FE_FUNC_A)?;
-    element(rt, "FeFuncB", eid::FE_FUNC_B)?;
-    element(rt, "FeFuncG", eid::FE_FUNC_G)?;
-    element(rt, "FeFuncR", eid::FE_FUNC_R)?;
-    element(rt, "FeGaussianBlur", eid::FE_GAUSSIAN_BLUR)?;
-    element(rt, "FeImage", eid::FE_IMAGE)
-}
-
-fn elements_3(rt: &impl Print) -> io::Result<()> {
-    element(rt, "FeMerge", eid::FE_MERGE)?;
-    element(rt, "FeMorphology", eid::FE_MORPHOLOGY)?;
-    element(rt, "FeOffset", eid::FE_OFFSET)?;
-    element(rt, "FePointLight", eid::FE_POINT_LIGHT)?;
-    element(rt, "FeSpecularLighting", eid::FE_SPECULAR_LIGHTING)?;
-    element(rt, "FeSpotLight", eid::FE_SPOT_LIGHT)?;
-    element(rt, "FeTile", eid::FE_TILE)?;
-    element(rt, "FeTurbulence", eid::FE_TURBULENCE)
-}
-
-fn attributes_1(rt: &impl Print) -> io::Result<()> {
-    attribute(rt, "Amplitude", aid::AMPLITUDE)?;
-    attribute(rt, "Azimuth", aid::AZIMUTH)?;
-    attribute(rt, "BaseFrequency", aid::BASE_FREQUENCY)?;
-    attribute(rt, "Bias", aid::BIAS)?;
-    attribute(rt, "Color", aid::COLOR)?;
-    attribute(
-        rt,
+const ATTRIBUTES: [(&str, u16); 56] = [
+    ("Amplitude", aid::AMPLITUDE),
+    ("Azimuth", aid::AZIMUTH),
+    ("BaseFrequency", aid::BASE_FREQUENCY),
+    ("Bias", aid::BIAS),
+    ("Color", aid::COLOR),
+    (
         "ColorInterpolationFilters",
         aid::COLOR_INTERPOLATION_FILTERS,
-    )?;
-    attribute(rt, "DiffuseConstant", aid::DIFFUSE_CONSTANT)?;
-    attribute(rt, "Divisor", aid::DIVISOR)
-}
+    ),
+    ("DiffuseConstant", aid::DIFFUSE_CONSTANT),
+    ("Divisor", aid::DIVISOR),
+    ("Dx", aid::DX),
+    ("Dy", aid::DY),
+    ("EdgeMode", aid::EDGE_MODE),
+    ("Elevation", aid::ELEVATION),
+    ("Exponent", aid::EXPONENT),
+    ("FloodColor", aid::FLOOD_COLOR),
+    ("FloodOpacity", aid::FLOOD_OPACITY),
+    ("Height", aid::HEIGHT),
+    ("In", aid::IN),
+    ("In2", aid::IN2),
+    ("Intercept", aid::INTERCEPT),
+    ("K1", aid::K1),
+    ("K2", aid::K2),
+    ("K3", aid::K3),
+    ("K4", aid::K4),
+    ("KernelMatrix", aid::KERNEL_MATRIX),
+    ("LightingColor", aid::LIGHTING_COLOR),
+    ("LimitingConeAngle", aid::LIMITING_CONE_ANGLE),
+    ("Mode", aid::MODE),
+    ("NumOctaves", aid::NUM_OCTAVES),
+    ("Offset", aid::OFFSET),
+    ("Operator", aid::OPERATOR),
+    ("Order", aid::ORDER),
+    ("PointsAtX", aid::POINTS_AT_X),
+    ("PointsAtY", aid::POINTS_AT_Y),
+    ("PointsAtZ", aid::POINTS_AT_Z),
+    ("PreserveAlpha", aid::PRESERVE_ALPHA),
+    ("Radius", aid::RADIUS),
+    ("Result", aid::RESULT),
+    ("Scale", aid::SCALE),
+    ("Seed", aid::SEED),
+    ("Slope", aid::SLOPE),
+    ("SpecularConstant", aid::SPECULAR_CONSTANT),
+    ("SpecularExponent", aid::SPECULAR_EXPONENT),
+    ("StdDeviation", aid::STD_DEVIATION),
+    ("StitchTiles", aid::STITCH_TILES),
+    ("SurfaceScale", aid::SURFACE_SCALE),
+    ("TableValues", aid::TABLE_VALUES),
+    ("TargetX", aid::TARGET_X),
+    ("TargetY", aid::TARGET_Y),
+    ("Type", aid::TYPE),
+    ("Values", aid::VALUES),
+    ("Width", aid::WIDTH),
+    ("X", aid::X),
+    ("XChannelSelector", aid::X_CHANNEL_SELECTOR),
+    ("Y", aid::Y),
+    ("YChannelSelector", aid::Y_CHANNEL_SELECTOR),
+    ("Z", aid::Z),
+];
 
-fn attributes_2(rt: &impl Print) -> io::Result<()> {
-    attribute(rt, "Dx", aid::DX)?;
-    attribute(rt, "Dy", aid::DY)?;
-    attribute(rt, "EdgeMode", aid::EDGE_MODE)?;
-    attribute(rt, "Elevation", aid::ELEVATION)?;
-    attribute(rt, "Exponent", aid::EXPONENT)?;
-    attribute(rt, "FloodColor", aid::FLOOD_COLOR)?;
-    attribute(rt, "FloodOpacity", aid::FLOOD_OPACITY)?;
-    attribute(rt, "Height", aid::HEIGHT)
-}
-
-fn attributes_3(rt: &impl Print) -> io::Result<()> {
-    attribute(rt, "In", aid::IN)?;
-    attribute(rt, "In2", aid::IN2)?;
-    attribute(rt, "Intercept", aid::INTERCEPT)?;
-    attribute(rt, "K1", aid::K1)?;
-    attribute(rt, "K2", aid::K2)?;
-    attribute(rt, "K3", aid::K3)?;
-    attribute(rt, "K4", aid::K4)?;
-    attribute(rt, "KernelMatrix", aid::KERNEL_MATRIX)
-}
-
-fn attributes_4(rt: &impl Print) -> io::Result<()> {
-    attribute(rt, "LightingColor", aid::LIGHTING_COLOR)?;
-    attribute(rt, "LimitingConeAngle", aid::LIMITING_CONE_ANGLE)?;
-    attribute(rt, "Mode", aid::MODE)?;
-    attribute(rt, "NumOctaves", aid::NUM_OCTAVES)?;
-    attribute(rt, "Offset", aid::OFFSET)?;
-    attribute(rt, "Operator", aid::OPERATOR)?;
-    attribute(rt, "Order", aid::ORDER)?;
-    attribute(rt, "PointsAtX", aid::POINTS_AT_X)
-}
-
-fn attributes_5(rt: &impl Print) -> io::Result<()> {
-    attribute(rt, "PointsAtY", aid::POINTS_AT_Y)?;
-    attribute(rt, "PointsAtZ", aid::POINTS_AT_Z)?;
-    attribute(rt, "PreserveAlpha", aid::PRESERVE_ALPHA)?;
-    attribute(rt, "Radius", aid::RADIUS)?;
-    attribute(rt, "Result", aid::RESULT)?;
-    attribute(rt, "Scale", aid::SCALE)?;
-    attribute(rt, "Seed", aid::SEED)?;
-    attribute(rt, "Slope", aid::SLOPE)
-}
-
-fn attributes_6(rt: &impl Print) -> io::Result<()> {
-    attribute(rt, "SpecularConstant", aid::SPECULAR_CONSTANT)?;
-    attribute(rt, "SpecularExponent", aid::SPECULAR_EXPONENT)?;
-    attribute(rt, "StdDeviation", aid::STD_DEVIATION)?;
-    attribute(rt, "StitchTiles", aid::STITCH_TILES)?;
-    attribute(rt, "SurfaceScale", aid::SURFACE_SCALE)?;
-    attribute(rt, "TableValues", aid::TABLE_VALUES)?;
-    attribute(rt, "TargetX", aid::TARGET_X)?;
-    attribute(rt, "TargetY", aid::TARGET_Y)
-}
-
-fn attributes_7(rt: &impl Print) -> io::Result<()> {
-    attribute(rt, "Type", aid::TYPE)?;
-    attribute(rt, "Values", aid::VALUES)?;
-    attribute(rt, "Width", aid::WIDTH)?;
-    attribute(rt, "X", aid::X)?;
-    attribute(rt, "XChannelSelector", aid::X_CHANNEL_SELECTOR)?;
-    attribute(rt, "Y", aid::Y)?;
-    attribute(rt, "YChannelSelector", aid::Y_CHANNEL_SELECTOR)?;
-    attribute(rt, "Z", aid::Z)
-}
-
-fn elements(rt: &impl Print) -> io::Result<()> {
-    print_line(rt, "EId", u64::from(eid::COUNT))?;
-    elements_1(rt)?;
-    elements_2(rt)?;
-    elements_3(rt)
-}
-
-fn attributes(rt: &impl Print) -> io::Result<()> {
-    print_line(rt, "AId", u64::from(aid::COUNT))?;
-    attributes_1(rt)?;
-    attributes_2(rt)?;
-    attributes_3(rt)?;
-    attributes_4(rt)?;
-    attributes_5(rt)?;
-    attributes_6(rt)?;
-    attributes_7(rt)
+fn print_names<T: Display + Drop>(
+    rt: &impl Print,
+    kind: &str,
+    count: T,
+    names: &[(&str, T)],
+) -> io::Result<()> {
+    println!(rt; "{kind} {count}")?;
+    for (name, number) in names {
+        println!(rt; "{kind}::{name} {number}")?;
+    }
+    Ok(())
 }
 
 fn main(rt: HostRuntime) -> io::Result<()> {
-    elements(&rt)?;
-    attributes(&rt)
+    print_names(&rt, "EId", eid::COUNT, &ELEMENTS)?;
+    print_names(&rt, "AId", aid::COUNT, &ATTRIBUTES)
 }

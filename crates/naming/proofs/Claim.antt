@@ -1,9 +1,8 @@
 -- The claim: at every input of every list, `lookup` of what `resolve` writes is what `rule` says. What makes the two agree is `Newest`: of the children so
 -- far, the newest that is called t is the newest whose own result t is, or else the one that t was made for. Assumes nothing.
+use Rattle.std.specs.Prelude.{None, Option, Some, option_map, unwrap_or}
 use mathlib.Core.Path.{◌≡◌, refl, sym, ap, ◌∙◌}
 use mathlib.Core.Bool.{Bool, true, false, cond, ◌||◌}
-use mathlib.Core.Option
-use mathlib.Core.Option.{Option, none, some}
 use mathlib.Core.List.{List, [], ◌∷◌, ◌++◌, map, append-nil}
 use Prim.Native.Nat.{ℕ, zero, suc, ◌<◌}
 use native.Mathlib.Omega.{arith}
@@ -21,39 +20,39 @@ use Rattle.naming.proofs.Naming.{free_is_free}
 
 -- `last_with`
 
-later_cond : (b : Bool) (n : ℕ) (o : Option ℕ) (d : Bool) → later (cond b (some n) o) d ≡ cond b (some (suc n)) (later o d)
+later_cond : (b : Bool) (n : ℕ) (o : Option ℕ) (d : Bool) → later (cond b (Some n) o) d ≡ cond b (Some (suc n)) (later o d)
 later_cond true n o d = refl
 later_cond false n o d = refl
 
-last_snoc : {A : Type 0} (p : A → Bool) (xs : List A) (y : A) → last_with p (xs ++ (y ∷ [])) ≡ cond (p y) (some (length xs)) (last_with p xs)
+last_snoc : {A : Type 0} (p : A → Bool) (xs : List A) (y : A) → last_with p (xs ++ (y ∷ [])) ≡ cond (p y) (Some (length xs)) (last_with p xs)
 unfolding last_with
 last_snoc p [] y = refl
 last_snoc p (x ∷ xs) y = rw (last_snoc p xs y) (later_cond (p y) (length xs) (last_with p xs) (p x))
 
 -- the name of the last record finds the last record
-last_found : (n : Name) (ns : List Name) → last_with (same (last_of n ns)) (n ∷ ns) ≡ some (length ns)
+last_found : (n : Name) (ns : List Name) → last_with (same (last_of n ns)) (n ∷ ns) ≡ Some (length ns)
 unfolding last_with
 last_found n [] = rw same_refl
 last_found n (m ∷ ms) = rw (last_found m ms)
 
 -- a name that `member` finds `last_with` finds, and no other
 
-absent : (t : Name) (ns : List Name) → member t ns ≡ false → last_with (same t) ns ≡ none
+absent : (t : Name) (ns : List Name) → member t ns ≡ false → last_with (same t) ns ≡ None
 unfolding last_with member
 absent t [] e = refl
 absent t (n ∷ ns) e = rw (absent t ns (or_right (same t n) (member t ns) e), or_left (same t n) (member t ns) e)
 
-found_cons : (b : Bool) (o : Option ℕ) (m : Bool) → (m ≡ true → (k : ℕ) × (o ≡ some k)) → b || m ≡ true → (k : ℕ) × (later o b ≡ some k)
-found_cons true none m t e = (0, refl)
-found_cons true (some k) m t e = (suc k, refl)
+found_cons : (b : Bool) (o : Option ℕ) (m : Bool) → (m ≡ true → (k : ℕ) × (o ≡ Some k)) → b || m ≡ true → (k : ℕ) × (later o b ≡ Some k)
+found_cons true None m t e = (0, refl)
+found_cons true (Some k) m t e = (suc k, refl)
 found_cons false o m t e = let q = t e in (suc q.0, rw q.1)
 
-present : (t : Name) (ns : List Name) → member t ns ≡ true → (k : ℕ) × (last_with (same t) ns ≡ some k)
+present : (t : Name) (ns : List Name) → member t ns ≡ true → (k : ℕ) × (last_with (same t) ns ≡ Some k)
 unfolding last_with member
 present t [] e = both_ways false e refl
 present t (n ∷ ns) e = found_cons (same t n) (last_with (same t) ns) (member t ns) (present t ns) e
 
-own_absent : (t : Name) (ls : List Label) → member t (own_names ls) ≡ false → last_with (is_own t) ls ≡ none
+own_absent : (t : Name) (ls : List Label) → member t (own_names ls) ≡ false → last_with (is_own t) ls ≡ None
 unfolding last_with member own_names
 own_absent t [] e = refl
 own_absent t (Own u ∷ ls) e = rw (own_absent t ls (or_right (same t u) (member t (own_names ls)) e), or_left (same t u) (member t (own_names ls)) e)
@@ -62,9 +61,9 @@ own_absent t (Made k ∷ ls) e = rw (own_absent t ls e)
 -- The reserved words: `parse_in` and the rule read the same ones
 
 data Read (t : Name) : Type 0 where
-  r_graphic : parse_in t ≡ SourceGraphic → reserved t ≡ some graphic → Read t
-  r_alpha : parse_in t ≡ SourceAlpha → reserved t ≡ some alpha → Read t
-  r_name : parse_in t ≡ Reference t → reserved t ≡ none → Read t
+  r_graphic : parse_in t ≡ SourceGraphic → reserved t ≡ Some graphic → Read t
+  r_alpha : parse_in t ≡ SourceAlpha → reserved t ≡ Some alpha → Read t
+  r_name : parse_in t ≡ Reference t → reserved t ≡ None → Read t
 
 read : (t : Name) → Read t
 unfolding parse_in member
@@ -101,19 +100,19 @@ map_snoc {B} f (x ∷ xs) y = ap {B = List B} (λ l. f x ∷ l) (map_snoc f xs y
 
 -- the names after one more label
 names_snoc : (t : Name) (ls : List Label) (l : Label)
-    → last_with (same t) (map name_of (ls ++ (l ∷ []))) ≡ cond (same t (name_of l)) (some (length ls)) (last_with (same t) (map name_of ls))
+    → last_with (same t) (map name_of (ls ++ (l ∷ []))) ≡ cond (same t (name_of l)) (Some (length ls)) (last_with (same t) (map name_of ls))
 names_snoc t ls l = rw (map_snoc name_of ls l, last_snoc (same t) (map name_of ls) (name_of l), length-map ls name_of)
 
 newest_after : (st : Results) (o : Option Name) → Newest st.labels → Newest (after st o).labels
-newest_after st (some u) g t = rw (names_snoc t ls (Own u), last_snoc (is_own t) ls (Own u), last_snoc (is_made t) ls (Own u)) (go (same t u))
+newest_after st (Some u) g t = rw (names_snoc t ls (Own u), last_snoc (is_own t) ls (Own u), last_snoc (is_made t) ls (Own u)) (go (same t u))
   where
     ls : List Label
     ls = st.labels
 
-    go : (b : Bool) → cond b (some (length ls)) (last_with (same t) (map name_of ls)) ≡ or_else (cond b (some (length ls)) (last_with (is_own t) ls)) (last_with (is_made t) ls)
+    go : (b : Bool) → cond b (Some (length ls)) (last_with (same t) (map name_of ls)) ≡ or_else (cond b (Some (length ls)) (last_with (is_own t) ls)) (last_with (is_made t) ls)
     go true = refl
     go false = g t
-newest_after st none g t = rw (names_snoc t ls (Made k), last_snoc (is_own t) ls (Made k), last_snoc (is_made t) ls (Made k)) (go (same t (made_name k)) refl)
+newest_after st None g t = rw (names_snoc t ls (Made k), last_snoc (is_own t) ls (Made k), last_snoc (is_made t) ls (Made k)) (go (same t (made_name k)) refl)
   where
     ls : List Label
     ls = st.labels
@@ -122,7 +121,7 @@ newest_after st none g t = rw (names_snoc t ls (Made k), last_snoc (is_own t) ls
     k = next_free st
 
     go : (b : Bool) → same t (made_name k) ≡ b
-        → cond b (some (length ls)) (last_with (same t) (map name_of ls)) ≡ or_else (last_with (is_own t) ls) (cond b (some (length ls)) (last_with (is_made t) ls))
+        → cond b (Some (length ls)) (last_with (same t) (map name_of ls)) ≡ or_else (last_with (is_own t) ls) (cond b (Some (length ls)) (last_with (is_made t) ls))
     go true e =
         let m : member t (own_names ls) ≡ false = rw (same_eq t (made_name k) e) (free_is_free (own_names ls) st.idx) in
         rw (own_absent t ls m)
@@ -130,34 +129,34 @@ newest_after st none g t = rw (names_snoc t ls (Made k), last_snoc (is_own t) ls
 
 -- One input
 
-directly_found : (ls : List Label) → lookup (map name_of ls) (previous (map name_of ls)) ≡ some (directly ls)
+directly_found : (ls : List Label) → lookup (map name_of ls) (previous (map name_of ls)) ≡ Some (directly ls)
 unfolding lookup
 directly_found [] = refl
 directly_found (l ∷ ls) =
-    let last : last_with (same (last_of (name_of l) (map name_of ls))) (map name_of (l ∷ ls)) ≡ some (length ls) = rw (last_found (name_of l) (map name_of ls), length-map ls name_of) in
-    ap (Option.map nth) last
+    let last : last_with (same (last_of (name_of l) (map name_of ls))) (map name_of (l ∷ ls)) ≡ Some (length ls) = rw (last_found (name_of l) (map name_of ls), length-map ls name_of) in
+    ap (option_map nth) last
 
-one_input : (ls : List Label) → Newest ls → (x : Option Name) → lookup (map name_of ls) (resolve (map name_of ls) x) ≡ some (rule ls x)
+one_input : (ls : List Label) → Newest ls → (x : Option Name) → lookup (map name_of ls) (resolve (map name_of ls) x) ≡ Some (rule ls x)
 unfolding resolve rule lookup
-one_input ls g none = directly_found ls
-one_input ls g (some t) = go (read t)
+one_input ls g None = directly_found ls
+one_input ls g (Some t) = go (read t)
   where
     ns : List Name
     ns = map name_of ls
 
     by_name : InputImage
-    by_name = Option.get_or (Option.map nth (called t ls)) (directly ls)
+    by_name = unwrap_or (option_map nth (called t ls)) (directly ls)
 
-    named : (b : Bool) → member t ns ≡ b → lookup ns (cond b (Reference t) (previous ns)) ≡ some by_name
+    named : (b : Bool) → member t ns ≡ b → lookup ns (cond b (Reference t) (previous ns)) ≡ Some by_name
     named true m =
         let f = present t ns m in
-        let q : called t ls ≡ some f.0 = sym (g t) ∙ f.1 in
+        let q : called t ls ≡ Some f.0 = sym (g t) ∙ f.1 in
         rw (f.1, q)
     named false m =
-        let q : called t ls ≡ none = sym (g t) ∙ absent t ns m in
+        let q : called t ls ≡ None = sym (g t) ∙ absent t ns m in
         rw q (directly_found ls)
 
-    go : Read t → lookup ns (settled ns (parse_in t)) ≡ some (Option.get_or (reserved t) by_name)
+    go : Read t → lookup ns (settled ns (parse_in t)) ≡ Some (unwrap_or (reserved t) by_name)
     go (r_graphic p q) = rw (p, q)
     go (r_alpha p q) = rw (p, q)
     go (r_name p q) = rw (p, q) (named (member t ns) refl)
@@ -171,10 +170,10 @@ get_d_map f (x ∷ xs) (suc j) a b h = get_d_map f xs j a b (omega arith)
 
 agree_from : (cs : List ChildNames) (st : Results) → Newest st.labels → (i : ℕ) → i < length cs → (j : ℕ) → j < length (inputs_at cs i)
     → lookup (names_so_far st ++ result_names (take i (record_names_from st cs))) (get_or (written_at (record_names_from st cs) i) j SourceGraphic)
-    ≡ some (rule (after_all st (owns (take i cs))).labels (get_or (inputs_at cs i) j none))
+    ≡ Some (rule (after_all st (owns (take i cs))).labels (get_or (inputs_at cs i) j None))
 unfolding record_names_from after_all
 agree_from [] st g i h j k = absurd (omega arith)
-agree_from (c ∷ cs) st g zero h j k = rw (append-nil (names_so_far st), get_d_map (resolve (names_so_far st)) c.inputs j none SourceGraphic k) (one_input st.labels g (get_or c.inputs j none))
+agree_from (c ∷ cs) st g zero h j k = rw (append-nil (names_so_far st), get_d_map (resolve (names_so_far st)) c.inputs j None SourceGraphic k) (one_input st.labels g (get_or c.inputs j None))
 agree_from (c ∷ cs) st g (suc i) h j k =
     rw (
       ← append_snoc (names_so_far st) (name_of (label st c.own)) (result_names (take i (record_names_from (after st c.own) cs))),

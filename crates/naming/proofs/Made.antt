@@ -1,12 +1,12 @@
 -- Made names: their numbers rise, so no two are the same, and none is an earlier child's own result. So "the earlier child it was made for" is one child.
 -- Assumes nothing.
+use Rattle.std.specs.Prelude.{None, Option, Some, slice_get}
 use mathlib.Core.Path.{◌≡◌, refl, sym, ap, ◌∙◌}
 use mathlib.Core.Bool.{true, ◌||◌}
-use mathlib.Core.Option.{Option, none, some}
 use mathlib.Core.List.{List, [], ◌∷◌, ◌++◌, append-nil}
 use Prim.Native.Nat.{ℕ, zero, suc, ◌+◌, ◌≤◌, ◌<◌}
 use native.Mathlib.Omega.{arith}
-use lib.ListN.{get_elem?, take}
+use lib.ListN.{take}
 use lib.Seq.{append_snoc}
 use Rattle.bits.specs.Bytes.{same}
 use Rattle.bits.proofs.Sameness.{same_refl}
@@ -37,23 +37,23 @@ unfolding labels_from
 labels_take os k = rw (labels_from_lem os start, labels_from_lem (take k os) start) (take_from os start k)
 
 next_rises : (st : Results) (o : Option Name) → st.idx + 1 ≤ (after st o).idx
-next_rises st none = omega (arith, free_at_least (own_names st.labels) st.idx)
-next_rises st (some t) = omega arith
+next_rises st None = omega (arith, free_at_least (own_names st.labels) st.idx)
+next_rises st (Some t) = omega arith
 
-at_least : (os : List (Option Name)) (st : Results) (j b : ℕ) → get_elem? (labels_from st os) j ≡ some (Made b) → st.idx ≤ b
+at_least : (os : List (Option Name)) (st : Results) (j b : ℕ) → slice_get (labels_from st os) j ≡ Some (Made b) → st.idx ≤ b
 unfolding labels_from
 at_least [] st j b e = let z : ◌≡◌ {A = ℕ} 0 1 = cc in absurd (omega arith)
-at_least (none ∷ os) st zero b e = let q : next_free st ≡ b = cc in omega (arith, free_at_least (own_names st.labels) st.idx)
-at_least (some t ∷ os) st zero b e = let z : ◌≡◌ {A = ℕ} 0 1 = cc in absurd (omega arith)
+at_least (None ∷ os) st zero b e = let q : next_free st ≡ b = cc in omega (arith, free_at_least (own_names st.labels) st.idx)
+at_least (Some t ∷ os) st zero b e = let z : ◌≡◌ {A = ℕ} 0 1 = cc in absurd (omega arith)
 at_least (o ∷ os) st (suc j) b e = omega (arith, at_least os (after st o) j b e, next_rises st o)
 
 rises_from : (os : List (Option Name)) (st : Results) (i j a b : ℕ) → i < j
-    → get_elem? (labels_from st os) i ≡ some (Made a) → get_elem? (labels_from st os) j ≡ some (Made b) → a < b
+    → slice_get (labels_from st os) i ≡ Some (Made a) → slice_get (labels_from st os) j ≡ Some (Made b) → a < b
 unfolding labels_from
 rises_from [] st i j a b h p q = let z : ◌≡◌ {A = ℕ} 0 1 = cc in absurd (omega arith)
 rises_from (o ∷ os) st i zero a b h p q = absurd (omega arith)
-rises_from (none ∷ os) st zero (suc j) a b h p q = let r : next_free st ≡ a = cc in omega (arith, at_least os (after st none) j b q)
-rises_from (some t ∷ os) st zero (suc j) a b h p q = let z : ◌≡◌ {A = ℕ} 0 1 = cc in absurd (omega arith)
+rises_from (None ∷ os) st zero (suc j) a b h p q = let r : next_free st ≡ a = cc in omega (arith, at_least os (after st None) j b q)
+rises_from (Some t ∷ os) st zero (suc j) a b h p q = let z : ◌≡◌ {A = ℕ} 0 1 = cc in absurd (omega arith)
 rises_from (o ∷ os) st (suc i) (suc j) a b h p q = rises_from os (after st o) i j a b (omega arith) p q
 
 -- explicit names, one label more
@@ -77,32 +77,32 @@ unfolding member own_names
 now_named t xs = rw (own_append xs (Own t ∷ []), member_append t (own_names xs) (t ∷ []), same_refl t) (or_true (member t (own_names xs)))
 
 not_named : (os : List (Option Name)) (st : Results) (j m : ℕ) (t : Name) → member t (own_names st.labels) ≡ true
-    → get_elem? (labels_from st os) j ≡ some (Made m) → made_name m ≡ t → ⊥
+    → slice_get (labels_from st os) j ≡ Some (Made m) → made_name m ≡ t → ⊥
 unfolding labels_from
 not_named [] st j m t s e q = let z : ◌≡◌ {A = ℕ} 0 1 = cc in omega arith
-not_named (none ∷ os) st zero m t s e q =
+not_named (None ∷ os) st zero m t s e q =
     let r : next_free st ≡ m = cc in
     both_ways (member t (own_names st.labels)) s (rw (← q, ← r) (free_is_free (own_names st.labels) st.idx))
-not_named (some u ∷ os) st zero m t s e q = let z : ◌≡◌ {A = ℕ} 0 1 = cc in omega arith
+not_named (Some u ∷ os) st zero m t s e q = let z : ◌≡◌ {A = ℕ} 0 1 = cc in omega arith
 not_named (o ∷ os) st (suc j) m t s e q = not_named os (after st o) j m t (still_named t st.labels (label st o ∷ []) s) e q
 
 not_own_from : (os : List (Option Name)) (st : Results) (i j m : ℕ) (t : Name) → i < j
-    → get_elem? (labels_from st os) i ≡ some (Own t) → get_elem? (labels_from st os) j ≡ some (Made m) → made_name m ≡ t → ⊥
+    → slice_get (labels_from st os) i ≡ Some (Own t) → slice_get (labels_from st os) j ≡ Some (Made m) → made_name m ≡ t → ⊥
 unfolding labels_from
 not_own_from [] st i j m t h p q e = let z : ◌≡◌ {A = ℕ} 0 1 = cc in omega arith
 not_own_from (o ∷ os) st i zero m t h p q e = omega arith
-not_own_from (none ∷ os) st zero (suc j) m t h p q e = let z : ◌≡◌ {A = ℕ} 0 1 = cc in omega arith
-not_own_from (some u ∷ os) st zero (suc j) m t h p q e =
+not_own_from (None ∷ os) st zero (suc j) m t h p q e = let z : ◌≡◌ {A = ℕ} 0 1 = cc in omega arith
+not_own_from (Some u ∷ os) st zero (suc j) m t h p q e =
     let r : u ≡ t = cc in
-    not_named os (after st (some u)) j m t (rw r (now_named t st.labels)) q e
+    not_named os (after st (Some u)) j m t (rw r (now_named t st.labels)) q e
 not_own_from (o ∷ os) st (suc i) (suc j) m t h p q e = not_own_from os (after st o) i j m t (omega arith) p q e
 
 -- made numbers rise
-pub made_rise : (os : List (Option Name)) (i j a b : ℕ) → i < j → get_elem? (labels os) i ≡ some (Made a) → get_elem? (labels os) j ≡ some (Made b) → a < b
+pub made_rise : (os : List (Option Name)) (i j a b : ℕ) → i < j → slice_get (labels os) i ≡ Some (Made a) → slice_get (labels os) j ≡ Some (Made b) → a < b
 made_rise os i j a b h p q = rises_from os start i j a b h (rw (labels_from_lem os start) at p) (rw (labels_from_lem os start) at q)
 
 -- so made names are distinct
-pub made_distinct : (os : List (Option Name)) (i j a b : ℕ) → i < j → get_elem? (labels os) i ≡ some (Made a) → get_elem? (labels os) j ≡ some (Made b)
+pub made_distinct : (os : List (Option Name)) (i j a b : ℕ) → i < j → slice_get (labels os) i ≡ Some (Made a) → slice_get (labels os) j ≡ Some (Made b)
     → made_name a ≡ made_name b → ⊥
 made_distinct os i j a b h p q e =
     let l : a < b = made_rise os i j a b h p q in
@@ -110,6 +110,6 @@ made_distinct os i j a b h p q e =
     omega arith
 
 -- and a made name is no earlier child's own result
-pub made_not_own : (os : List (Option Name)) (i j m : ℕ) (t : Name) → i < j → get_elem? (labels os) i ≡ some (Own t) → get_elem? (labels os) j ≡ some (Made m)
+pub made_not_own : (os : List (Option Name)) (i j m : ℕ) (t : Name) → i < j → slice_get (labels os) i ≡ Some (Own t) → slice_get (labels os) j ≡ Some (Made m)
     → made_name m ≡ t → ⊥
 made_not_own os i j m t h p q e = not_own_from os start i j m t h (rw (labels_from_lem os start) at p) (rw (labels_from_lem os start) at q) e

@@ -1,8 +1,6 @@
 -- What a reader of the list finds at an input (`lookup`), what the document says that it is (`rule`), and the claim that the two agree at every input
 -- of the list. Definitions only.
-use Rattle.std.specs.Prelude.{◌≡◌, Bool, false, cond, List, [], ◌∷◌, map, ℕ, suc, ◌<◌, length, get_or, take}
-use Rattle.std.proofs.Math.Option
-use Rattle.std.proofs.Math.Option.{Option, none, some}
+use Rattle.std.specs.Prelude.{◌≡◌, Bool, false, cond, List, [], ◌∷◌, map, ℕ, suc, ◌<◌, length, get_or, take, None, Option, Some, option_map, unwrap_or}
 use Rattle.bits.specs.Bytes.{same}
 use Rattle.tree.specs.Input.{Name, Input, SourceGraphic, SourceAlpha, Reference}
 use Rattle.naming.specs.Names.{member, made_name, Label, Own, Made, labels}
@@ -26,26 +24,26 @@ pub data InputImage : Type 0 where
 -- the number of the last element that passes a test
 
 abbrev pub later : Option ℕ → Bool → Option ℕ
-later none b = cond b (some 0) none
-later (some k) b = some (suc k)
+later None b = cond b (Some 0) None
+later (Some k) b = Some (suc k)
 
 unfoldable pub last_with : {A : Type 0} → (A → Bool) → List A → Option ℕ
-last_with p [] = none
+last_with p [] = None
 last_with p (x ∷ xs) = later (last_with p xs) (p x)
 
 -- The reader's lookup, with the results of the records before the input's own: a source stands for itself, and a reference for the newest of those
 -- records whose result it names; none where no record has it
 
 unfoldable pub lookup : List Name → Input → Option InputImage
-lookup ns SourceGraphic = some graphic
-lookup ns SourceAlpha = some alpha
-lookup ns (Reference t) = Option.map nth (last_with (same t) ns)
+lookup ns SourceGraphic = Some graphic
+lookup ns SourceAlpha = Some alpha
+lookup ns (Reference t) = option_map nth (last_with (same t) ns)
 
 -- The document's rule, with the labels of the children before the input's own
 
 -- what a reserved word stands for: each source for itself, and the four inputs that are not supported for SourceGraphic
 abbrev pub reserved : Name → Option InputImage
-reserved t = cond (same t w_source_alpha) (some alpha) (cond (member t (w_source_graphic ∷ unsupported_inputs)) (some graphic) none)
+reserved t = cond (same t w_source_alpha) (Some alpha) (cond (member t (w_source_graphic ∷ unsupported_inputs)) (Some graphic) None)
 
 abbrev pub is_own : Name → Label → Bool
 is_own t (Own u) = same t u
@@ -61,8 +59,8 @@ directly [] = graphic
 directly (l ∷ ls) = nth (length ls)
 
 abbrev pub or_else : Option ℕ → Option ℕ → Option ℕ
-or_else none o = o
-or_else (some k) o = some k
+or_else None o = o
+or_else (Some k) o = Some k
 
 -- The child that a text names: the newest of those before whose own result it is. The document: no other. The crate: where it is no child's own, the child
 -- without a result that the name was made for. There is one at most: `made_distinct` of proofs/Made
@@ -72,8 +70,8 @@ called t before = or_else (last_with (is_own t) before) (last_with (is_made t) b
 -- a reserved word is its source, and any other text the child that it names; where it names none, and where the input is absent, it is the child
 -- directly before
 unfoldable pub rule : List Label → Option Name → InputImage
-rule before none = directly before
-rule before (some t) = Option.get_or (reserved t) (Option.get_or (Option.map nth (called t before)) (directly before))
+rule before None = directly before
+rule before (Some t) = unwrap_or (reserved t) (unwrap_or (option_map nth (called t before)) (directly before))
 
 -- The claim
 
@@ -86,7 +84,7 @@ result_names rs = map (λ (r : RecordNames). r.result) rs
 -- the inputs of child i, and of record i
 
 abbrev pub inputs_at : List ChildNames → ℕ → List (Option Name)
-inputs_at cs i = (get_or cs i (record { own = none; inputs = [] })).inputs
+inputs_at cs i = (get_or cs i (record { own = None; inputs = [] })).inputs
 
 abbrev pub written_at : List RecordNames → ℕ → List Input
 written_at rs i = (get_or rs i (record { result = []; inputs = [] })).inputs
@@ -97,4 +95,4 @@ pub record Agrees (cs : List ChildNames) (rs : List RecordNames) : Type 0 where
   pub one_each : length rs ≡ length cs
   pub inputs_each : (i : ℕ) → i < length cs → length (written_at rs i) ≡ length (inputs_at cs i)
   pub agree : (i : ℕ) → i < length cs → (j : ℕ) → j < length (inputs_at cs i)
-      → lookup (result_names (take i rs)) (get_or (written_at rs i) j SourceGraphic) ≡ some (rule (labels (owns (take i cs))) (get_or (inputs_at cs i) j none))
+      → lookup (result_names (take i rs)) (get_or (written_at rs i) j SourceGraphic) ≡ Some (rule (labels (owns (take i cs))) (get_or (inputs_at cs i) j None))

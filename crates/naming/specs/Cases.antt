@@ -1,13 +1,12 @@
 -- Two cases that are found by computing: the counter's value, which list and rule share, so that the naming theorem alone does not fix it; and the search for a
 -- made name.
-use Rattle.std.specs.Prelude.{◌≡◌, refl, true, false, List, [], ◌∷◌, ◌++◌, map, ℕ}
-use Rattle.std.proofs.Math.Option.{none, some}
+use Rattle.std.specs.Prelude.{◌≡◌, refl, true, false, List, [], ◌∷◌, ◌++◌, map, ℕ, None, Some}
 use Rattle.bits.specs.Bytes.{same}
 use Rattle.bits.specs.Words.{word}
 use Rattle.naming.specs.Names.{w_result, member, digits_up_to, digits, made_name, first_free_up_to, first_free, Own, Made, own_names, after_all, labels}
 
 -- children with `a`, no result, `result4`, and no result twice: an explicit result adds 1, and a number that is skipped adds 1 like one that is used
-pub counter_counts : labels (some (word "a") ∷ none ∷ some (word "result4") ∷ none ∷ none ∷ []) ≡ Own (word "a") ∷ Made 2 ∷ Own (word "result4") ∷ Made 5 ∷ Made 6 ∷ []
+pub counter_counts : labels (Some (word "a") ∷ None ∷ Some (word "result4") ∷ None ∷ None ∷ []) ≡ Own (word "a") ∷ Made 2 ∷ Own (word "result4") ∷ Made 5 ∷ Made 6 ∷ []
 unfolding after_all first_free first_free_up_to member made_name digits digits_up_to own_names same
 counter_counts = refl
 

@@ -1,6 +1,5 @@
 -- What the converter writes for an input: `parse_in` and `resolve_input`. Definitions only.
-use Rattle.std.specs.Prelude.{cond, List, [], ◌∷◌}
-use Rattle.std.proofs.Math.Option.{Option, none, some}
+use Rattle.std.specs.Prelude.{cond, List, [], ◌∷◌, None, Option, Some}
 use Rattle.bits.specs.Bytes.{same}
 use Rattle.bits.specs.Words.{word}
 use Rattle.tree.specs.Input.{Name, Input, SourceGraphic, SourceAlpha, Reference}
@@ -56,5 +55,5 @@ settled ns (Reference t) = cond (member t ns) (Reference t) (previous ns)
 
 -- `resolve_input`, with the names of the results so far, at an `in` attribute or its absence
 unfoldable pub resolve : List Name → Option Name → Input
-resolve ns none = previous ns
-resolve ns (some t) = settled ns (parse_in t)
+resolve ns None = previous ns
+resolve ns (Some t) = settled ns (parse_in t)

@@ -1,6 +1,5 @@
 -- Names of results: the ones that children give themselves in `result`, and the ones that are made for the others. Definitions only.
-use Rattle.std.specs.Prelude.{Bool, false, cond, ◌||◌, List, [], ◌∷◌, ◌++◌, map, ℕ, zero, suc, ◌+◌, ◌/◌, ◌%◌, ltb, length}
-use Rattle.std.proofs.Math.Option.{Option, none, some}
+use Rattle.std.specs.Prelude.{Bool, false, cond, ◌||◌, List, [], ◌∷◌, ◌++◌, map, ℕ, zero, suc, ◌+◌, ◌/◌, ◌%◌, ltb, length, None, Option, Some}
 use Rattle.bits.specs.Bytes.{same}
 use Rattle.bits.specs.Words.{word}
 use Rattle.tree.specs.Input.{Name}
@@ -67,13 +66,13 @@ next_free st = first_free (own_names st.labels) st.idx
 
 -- `gen_result`: the label of a child whose `result` attribute is given, or absent
 abbrev pub label : Results → Option Name → Label
-label st (some t) = Own t
-label st none = Made (next_free st)
+label st (Some t) = Own t
+label st None = Made (next_free st)
 
 -- the counter goes on by 1 for an explicit result, and by 1 for each number that is skipped or used
 abbrev pub counter_after : Results → Option Name → ℕ
-counter_after st (some t) = st.idx + 1
-counter_after st none = next_free st + 1
+counter_after st (Some t) = st.idx + 1
+counter_after st None = next_free st + 1
 
 abbrev pub after : Results → Option Name → Results
 after st o = record { labels = st.labels ++ (label st o ∷ []); idx = counter_after st o }

@@ -1,4 +1,5 @@
 -- Which bits are a finite number's, and what `single` and `double_narrowed` read. Assumes nothing.
+use Rattle.std.specs.Prelude.{None, Some}
 use mathlib.Core.Path.{◌≡◌, sym, ap, ◌∙◌, subst}
 use Prim.Native.Nat.{ℕ, ◌*◌, ◌%◌, ◌<◌, ◌≤◌}
 use mathlib.Core.Bool.{Bool, true, false, not, cond}
@@ -10,7 +11,6 @@ use lib.Ieee.Bits.{of_bits-to_bits, of_bits-fits, nan_bits_is}
 use lib.Ieee.Scale.{finite}
 use Rattle.num.proofs.Laws.{finite_num}
 use Rattle.num.proofs.Patterns.{finite_bits}
-use Rattle.num.specs.declared.Number.TheVariants.{Finite, Not}
 use Rattle.num.specs.Narrowed.{narrowed, or_zero}
 use Rattle.num.specs.Means.{if_finite, pick_number, single_of, double_of}
 use Rattle.num.specs.Constants.{plus_zero}
@@ -39,13 +39,13 @@ module _ (n : ℕ) where
   pub bits_num : n % 2147483648 < 2139095040 → T (not (nan_bits binary32 n))
   bits_num h = subst (λ (b : Bool). T (not b)) (sym (nan_bits_is binary32 n)) (finite_num (of_bits binary32 n) (subst T (sym (yes h)) tt))
 
-  pub number_yes : n % 2147483648 < 2139095040 → Finite (of_bits binary32 n) ≡ if_finite (of_bits binary32 n)
+  pub number_yes : n % 2147483648 < 2139095040 → Some (of_bits binary32 n) ≡ if_finite (of_bits binary32 n)
   unfolding if_finite
-  number_yes h = ap (λ (t : Bool). pick_number t (Finite (of_bits binary32 n)) Not) (sym (yes h))
+  number_yes h = ap (λ (t : Bool). pick_number t (Some (of_bits binary32 n)) None) (sym (yes h))
 
-  pub number_no : 2139095040 ≤ n % 2147483648 → Not ≡ if_finite (of_bits binary32 n)
+  pub number_no : 2139095040 ≤ n % 2147483648 → None ≡ if_finite (of_bits binary32 n)
   unfolding if_finite
-  number_no h = ap (λ (t : Bool). pick_number t (Finite (of_bits binary32 n)) Not) (sym (no h))
+  number_no h = ap (λ (t : Bool). pick_number t (Some (of_bits binary32 n)) None) (sym (no h))
 
   pub single_yes : n % 2147483648 < 2139095040 → of_bits binary32 n ≡ single_of n
   unfolding single_of or_zero

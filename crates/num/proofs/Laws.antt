@@ -99,20 +99,6 @@ div_num f (fin s m e) (fin t n d) h k = go (eqb n 0) k
     go true h = absurd h
     go false h = round_num f (unlike s t) (m * up e * down d) (n * up d * down e)
 
--- ---- what a test against the infinities says
-pub finite_below : (x : Float) → lt x (inf false) ≡ true → lt (inf true) x ≡ finite x
-unfolding lt
-finite_below nan h = refl
-finite_below (inf true) h = refl
-finite_below (inf false) h = sym h
-finite_below (fin s m e) h = refl
-
-pub finite_not_below : (x : Float) → lt x (inf false) ≡ false → false ≡ finite x
-unfolding lt
-finite_not_below nan h = refl
-finite_not_below (inf s) h = refl
-finite_not_below (fin s m e) h = sym h
-
 -- ---- neither a NaN nor negative: zero or above it with the sign clear, an infinity included
 abbrev pub plus : Float → Bool
 plus nan = false

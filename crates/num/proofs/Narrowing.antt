@@ -5,15 +5,15 @@ use Prim.Native.Nat.{ℕ, zero, suc, ◌+◌, ◌-◌, ◌*◌, ◌/◌, ◌%◌
 use native.Mathlib.Nat.{lt_of_lt_of_le, le_trans, zero-add, zero-lt-suc, le-div_iff_mul-le, div-lt_iff_lt-mul, mul-le-mul_left}
 use native.Mathlib.Omega.{arith}
 use mathlib.Core.Bool.{Bool, true, false, not, cond}
-use lib.Dec.{T, leb, leb→le, nleb→lt, lit≤}
+use lib.Dec.{T, leb, leb→le, nleb→lt, lit≤, eqb, eqb→eq, not_T}
 use lib.Pow.{pow_pos, pow_mono}
 use lib.Ieee.{Float, nan, inf, fin, binary32, binary64, up, down, round, units, of_fields, of_bits, to_bits}
+use lib.Ieee.Bits.{is_false}
 use lib.Ieee.Fits.{down_pos, nearest-le}
 use lib.Ieee.Exact.{HasValue}
 use lib.Ieee.Nearest.{closest, nearest-ge}
 use lib.Ieee.Scale.{round_same}
 use Rattle.num.proofs.Laws.{by_le}
-use Rattle.num.proofs.Ends.{bits_nan}
 use Rattle.num.proofs.Patterns.{units_bits, units_over, inf_bits, round_normal, round_low, fields_low, fields_normal, closest_zero, of_bits_fields}
 use Rattle.num.specs.Narrowed.{narrowed}
 
@@ -170,12 +170,24 @@ sign_of b h = go (leb 9223372036854775808 b) (leb→le 9223372036854775808 b) (n
     go true p q = let l : 9223372036854775808 ≤ b = p tt in omega arith
     go false p q = let l : b < 9223372036854775808 = q tt in omega arith
 
+-- all ones in the exponent's field
+fields_ones : (s : Bool) (t : ℕ) → of_fields binary64 s 2047 t ≡ cond (eqb t 0) (inf s) nan
+unfolding of_fields
+fields_ones s t = refl
+
+bits_nan : (b : ℕ) → b % 9223372036854775808 / 4503599627370496 ≡ 2047 → (b % 4503599627370496 ≡ 0 → ⊥) → of_bits binary64 b ≡ nan
+bits_nan b e d =
+    let s = leb 9223372036854775808 b in
+    let t = b % 4503599627370496 in
+    of_bits_fields binary64 b ∙ ap (λ (x : ℕ). of_fields binary64 s x t) e ∙ fields_ones s t
+    ∙ ap (λ (z : Bool). cond z (inf s) nan) (is_false (eqb t 0) (not_T (eqb t 0) (λ u. d (eqb→eq t 0 u))))
+
 nan_bits_lem : to_bits binary32 (narrowed nan) ≡ 2143289344
 unfolding narrowed to_bits
 nan_bits_lem = refl
 
 pub narrowed_nan : (b : ℕ) → 9218868437227405312 < b % 9223372036854775808 → 2143289344 ≡ to_bits binary32 (narrowed (of_bits binary64 b))
-narrowed_nan b h = sym (ap (λ (z : Float). to_bits binary32 (narrowed z)) (bits_nan binary64 b (omega arith) (λ (e : b % 4503599627370496 ≡ 0). omega arith)) ∙ nan_bits_lem)
+narrowed_nan b h = sym (ap (λ (z : Float). to_bits binary32 (narrowed z)) (bits_nan b (omega arith) (λ (e : b % 4503599627370496 ≡ 0). omega arith)) ∙ nan_bits_lem)
 
 pub whole : (b r : ℕ) → b < 18446744073709551616 → Bits (b / 4503599627370496 % 2048) (b % 4503599627370496) r → b / 9223372036854775808 * 2147483648 + r ≡ to_bits binary32 (narrowed (of_bits binary64 b))
 whole b r h k =

@@ -51,12 +51,6 @@ cmp_eq a b e = go (compare a b) (subst (λ (x : ℕ). T (eqb a x)) e (eqb_refl a
 pub closest_lt : (a b : ℕ) → a % b * 2 < b → closest a b ≡ a / b
 closest_lt a b h = ap (nearest (a / b)) (cmp_lt (a % b * 2) b h)
 
-pub closest_gt : (a b : ℕ) → b < a % b * 2 → closest a b ≡ suc (a / b)
-closest_gt a b h = ap (nearest (a / b)) (cmp_gt (a % b * 2) b h)
-
-pub closest_eq : (a b : ℕ) → a % b * 2 ≡ b → closest a b ≡ a / b + a / b % 2
-closest_eq a b h = ap (nearest (a / b)) (cmp_eq (a % b * 2) b h)
-
 -- ---- the bits of a value of a magnitude of a smallest values
 pub to_bits_value : (f : Format) (x : Float) (s : Bool) (a : ℕ) → HasValue x s a (2 ^ low f) → to_bits f x ≡ cond s (top f) 0 + (size a - prec f) * hid f + a / 2 ^ (size a - prec f)
 unfolding to_bits

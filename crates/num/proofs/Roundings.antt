@@ -1,53 +1,28 @@
--- Fractions rounded to whole numbers: cut, a half up, a half to the even one. Each sees only the value; the last is `closest`, which narrowing uses too.
+-- Fractions rounded to whole numbers: a half up, and a half to the even one, which is `closest`: by that the library rounds, and narrowing.
 -- Nothing here is about floats. Assumes nothing.
 use mathlib.Core.Path.{◌≡◌, refl, sym, ap, ◌∙◌}
 use mathlib.Core.Logic.{inl, inr}
-use Prim.Native.Nat.{ℕ, ◌+◌, ◌*◌, ◌/◌, ◌%◌, ◌≤◌, ◌<◌, compare, Ordering}
-use native.Mathlib.Nat.{le_trans, zero-lt-suc, mul_comm, mul_assoc, mul-pos, mul-mul-mul_comm, add-mul, div-one, div-le_self, div-eq_of_lt, div-add-mod', mod-lt, mod-eq_of_lt, eq-zero-or-pos}
+use Prim.Native.Nat.{ℕ, suc, ◌+◌, ◌*◌, ◌/◌, ◌%◌, ◌^◌, ◌≤◌, ◌<◌, compare, Ordering}
+use native.Mathlib.Nat.{le_trans, zero-lt-suc, mul_comm, mul_assoc, mul-pos, add-mul, div-one, pow-suc, div-le_self, div-add-mod', mod-lt, eq-zero-or-pos}
 use native.Mathlib.Numerals.{add-one}
 use native.Mathlib.Omega.{arith}
 use mathlib.Core.Bool.{Bool, true, false, cond}
 use lib.Dec.{ltb, eqb}
 use borrow.Author.Tests.{ltb-true, ltb-false, eqb-true, eqb-false, eq-eqb, ne_eqb}
 use lib.Arith.{lt_of_le-ne}
+use lib.Pow.{pow_pos}
 use lib.Ieee.{nearest}
 use lib.Ieee.Fits.{nearest-le}
-use lib.Ieee.Nearest.{div_same, closest, closest_same}
+use lib.Ieee.Nearest.{div_same, closest}
 use Rattle.num.proofs.Patterns.{cmp_lt, cmp_gt, cmp_eq, closest_lt}
 use Rattle.num.specs.Whole.{above_lower, below_upper, even_of, nearer_of, half_even, half_up}
 
--- R gives equal fractions the same number, and keeps a whole number
-pub record Rounding (R : ℕ → ℕ → ℕ) : Type 0 where
-  pub same : (a c a' c' : ℕ) → 0 < c → 0 < c' → a * c' ≡ a' * c → R a c ≡ R a' c'
-  pub whole : (n : ℕ) → R n 1 ≡ n
-
--- ---- cut
-pub cut_rounding : Rounding ◌/◌
-cut_rounding = record { same = div_same; whole = div-one }
-
--- ---- a half up
-halves : (M D a c : ℕ) → M * c ≡ a * D → (M * 2 + D) * (c * 2) ≡ (a * 2 + c) * (D * 2)
-halves M D a c h =
-    let e1 = mul-mul-mul_comm M 2 c 2 in
-    let e2 = mul-mul-mul_comm a 2 D 2 in
-    let e3 = sym (mul_assoc D c 2) in
-    let e4 = sym (mul_assoc c D 2) in
-    let e5 = mul_comm D c in
-    let e6 = add-mul (M * 2) D (c * 2) in
-    let e7 = add-mul (a * 2) c (D * 2) in
-    omega arith
-
-pub up_rounding : Rounding half_up
-up_rounding = record { same = equal; whole = kept }
-  where
-    equal : (a c a' c' : ℕ) → 0 < c → 0 < c' → a * c' ≡ a' * c → half_up a c ≡ half_up a' c'
-    equal a c a' c' C C' h = div_same (a * 2 + c) (c * 2) (a' * 2 + c') (c' * 2) (mul-pos C (zero-lt-suc 1)) (mul-pos C' (zero-lt-suc 1)) (halves a c a' c' h)
-
-    kept : (n : ℕ) → (n * 2 + 1) / 2 ≡ n
-    kept n = omega arith
-
-pub up_none : (g u : ℕ) → g * 2 < u → half_up g u ≡ 0
-up_none g u h = div-eq_of_lt (omega arith)
+-- ---- a half up: a half is added, and the fraction cut
+pub half_up_lem : (g d j : ℕ) → suc j ≡ d → half_up g (2 ^ d) ≡ (g + 2 ^ j) / 2 ^ d
+half_up_lem g d j D =
+    let twice : 2 ^ d ≡ 2 ^ j * 2 = ap (λ (z : ℕ). 2 ^ z) (sym D) ∙ pow-suc 2 j in
+    div_same (g * 2 + 2 ^ d) (2 ^ d * 2) (g + 2 ^ j) (2 ^ d) (mul-pos (pow_pos d) (zero-lt-suc 1)) (pow_pos d)
+    (ap (λ (z : ℕ). z * 2 ^ d) (omega (arith, twice)) ∙ mul_assoc (g + 2 ^ j) 2 (2 ^ d) ∙ ap (λ (z : ℕ). (g + 2 ^ j) * z) (mul_comm 2 (2 ^ d)))
 
 -- ---- a half to the even one
 
@@ -85,20 +60,9 @@ even_closest a c C =
     let q : x + y ≡ c = omega arith in
     ap (nearer_of w) (compare_sum x y ∙ ap (λ (z : ℕ). compare (z * 2) (x + y)) p ∙ ap (compare (a % c * 2)) q) ∙ nearer_nearest w (compare (a % c * 2) c)
 
-pub even_rounding : Rounding half_even
-even_rounding = record { same = equal; whole = kept }
-  where
-    equal : (a c a' c' : ℕ) → 0 < c → 0 < c' → a * c' ≡ a' * c → half_even a c ≡ half_even a' c'
-    equal a c a' c' C C' h = even_closest a c C ∙ closest_same a c a' c' C C' h ∙ sym (even_closest a' c' C')
-
-    kept : (n : ℕ) → half_even n 1 ≡ n
-    kept n = even_closest n 1 (zero-lt-suc 0) ∙ closest_lt n 1 (omega arith) ∙ div-one n
-
-pub closest_none : (g u : ℕ) → g * 2 < u → closest g u ≡ 0
-closest_none g u h =
-    let l : g < u = omega arith in
-    let r : g % u ≡ g = mod-eq_of_lt l in
-    closest_lt g u (omega arith) ∙ div-eq_of_lt l
-
 pub closest_le : (g u : ℕ) → closest g u ≤ g + 1
 closest_le g u = le_trans (nearest-le (g / u) (compare (g % u * 2) u)) (omega (arith, div-le_self g u))
+
+-- a whole number stays
+pub closest_whole : (n : ℕ) → closest n 1 ≡ n
+closest_whole n = closest_lt n 1 (omega arith) ∙ div-one n

@@ -1,21 +1,18 @@
--- What the answers of the code's smaller functions stand for. No contract of an exported call reaches these. Definitions only.
-use Rattle.std.specs.Prelude.{ℕ, ◌*◌, ◌/◌, min, Bool, true, false, cond, Float, ℤ, pos, neg_ℤ}
+-- What numbers are read as, and a float cut to an i32 by its sign and size. No contract of an exported call reaches these. Definitions only.
+use Rattle.std.specs.Prelude.{ℕ, ◌*◌, ◌/◌, min, Bool, true, false, cond, Float, ℤ, pos, neg_ℤ, None, Option, Some}
 use Rattle.std.specs.Float.{nan, inf, fin, binary32, binary64}
 use Rattle.std.specs.Float.Ieee.{up, down, of_bits}
 use Rattle.std.specs.Float.Ieee.Scale.{finite}
-use Rattle.num.specs.declared.Number.{Number}
-use Rattle.num.specs.declared.Number.TheVariants.{Finite, Not}
 use Rattle.num.specs.Narrowed.{or_zero, as_f32}
-use Rattle.num.specs.Whole.{half_even}
 
 -- the first where the test holds, and else the second
-abbrev pub pick_number : Bool → Number → Number → Number
+abbrev pub pick_number : Bool → Option Float → Option Float → Option Float
 pick_number true a b = a
 pick_number false a b = b
 
 -- a number counts where it is finite; with any other the whole sheet is refused
-unfoldable pub if_finite : Float → Number
-if_finite x = pick_number (finite x) (Finite x) Not
+unfoldable pub if_finite : Float → Option Float
+if_finite x = pick_number (finite x) (Some x) None
 
 -- the number that f32 bits are read as
 unfoldable pub single_of : ℕ → Float
@@ -34,10 +31,6 @@ whole_by R (fin s m e) = R (m * up e) (down e)
 -- |x| without its fraction
 abbrev pub cut_size : Float → ℕ
 cut_size = whole_by ◌/◌
-
--- |x| to the nearest whole number, a half to the even one
-abbrev pub nearest_size : Float → ℕ
-nearest_size = whole_by half_even
 
 -- the i32 with this sign and size, held at both ends
 unfoldable pub held_signed : Bool → ℕ → ℤ

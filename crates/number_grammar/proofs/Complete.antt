@@ -1,10 +1,10 @@
 -- Every text of the production is read as the item that it says: a sign, digits, a point and an exponent each end where the next one begins. Assumes nothing.
+use Rattle.std.specs.Prelude.{Some as some}
 use Prim.Native.Nat.{ℕ}
 use native.Mathlib.Omega.{arith}
 use mathlib.Core.Path.{◌≡◌, refl, sym, ap, subst}
 use mathlib.Core.Bool.{Bool, true, false, ◌||◌}
 use mathlib.Core.List.{List, [], ◌∷◌, ◌++◌, append-nil}
-use mathlib.Core.Option.{some}
 use lib.ListN.{length}
 use lib.Dec.{T, eqb, eqb→eq}
 use lib.Ieee.Bits.{is_true}

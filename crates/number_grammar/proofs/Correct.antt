@@ -1,10 +1,10 @@
 -- What is read as an item is a text of the production that says this item: each part that is read is one of the production, and together they are the text.
 -- Assumes nothing.
+use Rattle.std.specs.Prelude.{None as none, Some as some}
 use Prim.Native.Nat.{ℕ}
 use mathlib.Core.Path.{◌≡◌, refl, sym, ap, ◌∙◌, subst}
 use mathlib.Core.Bool.{Bool, true, false, cond}
 use mathlib.Core.List.{List, [], ◌∷◌, ◌++◌, append-nil}
-use mathlib.Core.Option.{none, some, none-ne-some}
 use lib.ListN.{length}
 use lib.Dec.{T, eqb}
 use borrow.Author.Tests.{eqb-true}
@@ -58,8 +58,8 @@ record Scaled (m : Bool) (ds : List ℕ) (k : ℕ) (es : List ℕ) (i : TypedIte
 power_of : (m : Bool) (ds : List ℕ) (k e : ℕ) (t : List ℕ) (i : TypedItem) → T (is_e e) → (xs rest : List ℕ) → leading_digits (unsigned t) ≡ xs → after_digits (unsigned t) ≡ rest
     → power m ds k (negative t) xs rest ≡ some i → Scaled m ds k (e ∷ t) i
 unfolding power
-power_of m ds k e t i h [] rest p q f = absurd (none-ne-some i f)
-power_of m ds k e t i h (x ∷ xs) (b ∷ r) p q f = absurd (none-ne-some i f)
+power_of m ds k e t i h [] rest p q f = cc
+power_of m ds k e t i h (x ∷ xs) (b ∷ r) p q f = cc
 power_of m ds k e t i h (x ∷ xs) [] p q f =
     let g = split_sign t in
     let u : unsigned t ≡ x ∷ xs = split_digits (unsigned t) ∙ ap (λ (l : List ℕ). l ++ after_digits (unsigned t)) p ∙ ap (λ (l : List ℕ). (x ∷ xs) ++ l) q ∙ append-nil (x ∷ xs) in
@@ -79,12 +79,12 @@ scaled_of m ds k (e ∷ t) i f = go (is_e e) refl f
   where
     go : (q : Bool) → is_e e ≡ q → cond q (power m ds k (negative t) (leading_digits (unsigned t)) (after_digits (unsigned t))) none ≡ some i → Scaled m ds k (e ∷ t) i
     go true p f = power_of m ds k e t i (subst T (sym p) tt) (leading_digits (unsigned t)) (after_digits (unsigned t)) refl refl f
-    go false p f = absurd (none-ne-some i f)
+    go false p f = cc
 
 -- ---- the number
 plain_of : (sg : List ℕ) (m : Bool) (ds es : List ℕ) (i : TypedItem) → Sign sg m → Digits ds → plain m ds es ≡ some i → Number (sg ++ (ds ++ es)) i
 unfolding plain
-plain_of sg m [] es i g r f = absurd (none-ne-some i f)
+plain_of sg m [] es i g r f = cc
 plain_of sg m (d ∷ ds) es i g r f =
     let x = scaled_of m (d ∷ ds) 0 es i f in
     subst (Number (sg ++ ((d ∷ ds) ++ es))) (sym x.is) (without_point g (some_all d ds r) x.given)
@@ -92,7 +92,7 @@ plain_of sg m (d ∷ ds) es i g r f =
 pointed_of : (sg : List ℕ) (m : Bool) (ds fs es : List ℕ) (i : TypedItem) → Sign sg m → Digits ds → Digits fs → pointed m ds fs es ≡ some i
     → Number (sg ++ (ds ++ (46 ∷ (fs ++ es)))) i
 unfolding pointed
-pointed_of sg m ds [] es i g r q f = absurd (none-ne-some i f)
+pointed_of sg m ds [] es i g r q f = cc
 pointed_of sg m ds (d ∷ fs) es i g r q f =
     let x = scaled_of m (ds ++ (d ∷ fs)) (length (d ∷ fs)) es i f in
     subst (Number (sg ++ (ds ++ (46 ∷ ((d ∷ fs) ++ es))))) (sym x.is) (with_point g r (some_all d fs q) x.given)

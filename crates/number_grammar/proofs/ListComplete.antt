@@ -1,10 +1,10 @@
 -- Every text of the grammar of lists is read as its items: no byte of a number is white space or a comma, so each word is one item. Assumes nothing.
+use Rattle.std.specs.Prelude.{Option, Some as some}
 use Prim.Native.Nat.{ℕ}
 use native.Mathlib.Omega.{arith}
 use mathlib.Core.Path.{◌≡◌, refl, sym, ap, ◌∙◌, subst}
 use mathlib.Core.Bool.{Bool, true, false, ◌||◌}
 use mathlib.Core.List.{List, [], ◌∷◌, ◌++◌, append-nil, append_assoc}
-use mathlib.Core.Option.{Option, some}
 use lib.Dec.{T, eqb, eqb→eq}
 use lib.Ieee.Bits.{is_true}
 use borrow.Author.Tests.{ne_eqb}

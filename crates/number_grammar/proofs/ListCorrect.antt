@@ -1,11 +1,11 @@
 -- What is read as a list is a text of the grammar of lists, with these items: by the length of the text, one byte of white space, a comma or a word after
 -- the other. Assumes nothing.
+use Rattle.std.specs.Prelude.{None, Option, Some}
 use Prim.Native.Nat.{ℕ, zero, suc, ◌≤◌}
 use native.Mathlib.Nat.{le_of_suc-le-suc, le_trans, le_refl, le-suc, not-suc-le-zero}
 use mathlib.Core.Path.{◌≡◌, refl, sym, ap, ◌∙◌, subst}
 use mathlib.Core.Bool.{Bool, true, false, cond, true≢false}
 use mathlib.Core.List.{List, [], ◌∷◌, ◌++◌, append_assoc}
-use mathlib.Core.Option.{Option, none, some, none-ne-some}
 use lib.ListN.{length}
 use lib.Dec.{T, eqb}
 use borrow.Author.Tests.{eqb-true}
@@ -130,21 +130,21 @@ word_core n e (parted q m) = more_core n q m
 record Both (o : Option TypedItem) (r : Option (List TypedItem)) (is : List TypedItem) : Type 0 where
   item : TypedItem
   rest : List TypedItem
-  first : o ≡ some item
-  others : r ≡ some rest
+  first : o ≡ Some item
+  others : r ≡ Some rest
   all : item ∷ rest ≡ is
 
-both : (o : Option TypedItem) (r : Option (List TypedItem)) (is : List TypedItem) → and_more o r ≡ some is → Both o r is
+both : (o : Option TypedItem) (r : Option (List TypedItem)) (is : List TypedItem) → and_more o r ≡ Some is → Both o r is
 unfolding and_more
-both none r is e = absurd (none-ne-some is e)
-both (some i) none is e = absurd (none-ne-some is e)
-both (some i) (some js) is e = record { item = i; rest = js; first = refl; others = refl; all = cc }
+both None r is e = cc
+both (Some i) None is e = cc
+both (Some i) (Some js) is e = record { item = i; rest = js; first = refl; others = refl; all = cc }
 
-end_rest : (b : Before) (is : List TypedItem) → items_from b [] ≡ some is → Rest b [] is
+end_rest : (b : Before) (is : List TypedItem) → items_from b [] ≡ Some is → Rest b [] is
 unfolding items_from Rest
 end_rest before.Start is e = let f : [] ≡ is = cc in subst (Listed []) f (empty no_gap)
 end_rest before.Item is e = let f : [] ≡ is = cc in subst (Follow []) f (ends no_gap)
-end_rest before.Comma is e = absurd (none-ne-some is e)
+end_rest before.Comma is e = cc
 
 space_parts : (c : ℕ) (t : List ℕ) → is_space c ≡ true → parts (c ∷ t) ≡ parts t
 unfolding parts
@@ -158,14 +158,14 @@ first_begins : (c : ℕ) (t : List ℕ) → in_word c ≡ true → begins (c ∷
 unfolding begins
 first_begins c t e = e
 
-module _ (n : ℕ) (ih : (b : Before) (t : List ℕ) (is : List TypedItem) → length t ≤ n → items_from b (parts t) ≡ some is → Rest b t is) where
-  comma_rest : (b : Before) (t : List ℕ) (is : List TypedItem) → length t ≤ n → items_from b (comma_part ∷ parts t) ≡ some is → Rest b (44 ∷ t) is
+module _ (n : ℕ) (ih : (b : Before) (t : List ℕ) (is : List TypedItem) → length t ≤ n → items_from b (parts t) ≡ Some is → Rest b t is) where
+  comma_rest : (b : Before) (t : List ℕ) (is : List TypedItem) → length t ≤ n → items_from b (comma_part ∷ parts t) ≡ Some is → Rest b (44 ∷ t) is
   unfolding items_from Rest
-  comma_rest before.Start t is h e = absurd (none-ne-some is e)
+  comma_rest before.Start t is h e = cc
   comma_rest before.Item t is h e = comma_follow (ih before.Comma t is h e)
-  comma_rest before.Comma t is h e = absurd (none-ne-some is e)
+  comma_rest before.Comma t is h e = cc
 
-  word_rest : (b : Before) (c : ℕ) (t : List ℕ) (is : List TypedItem) → in_word c ≡ true → length t ≤ n → items_from b (parts (c ∷ t)) ≡ some is → Rest b (c ∷ t) is
+  word_rest : (b : Before) (c : ℕ) (t : List ℕ) (is : List TypedItem) → in_word c ≡ true → length t ≤ n → items_from b (parts (c ∷ t)) ≡ Some is → Rest b (c ∷ t) is
   unfolding Rest
   word_rest b c t is e h f =
       let w = first_word (c ∷ t) in
@@ -175,7 +175,7 @@ module _ (n : ℕ) (ih : (b : Before) (t : List ℕ) (is : List TypedItem) → l
       let m : Core (w ++ r) (g.item ∷ g.rest) = word_core (item_correct w g.item g.first) (rest_begins (c ∷ t)) k in
       core_rest b (subst (λ (js : List TypedItem). Core (c ∷ t) js) g.all (subst (λ (l : List ℕ). Core l (g.item ∷ g.rest)) (sym (split (c ∷ t))) m))
 
-  byte_rest : (b : Before) (c : ℕ) (t : List ℕ) (is : List TypedItem) → length t ≤ n → items_from b (parts (c ∷ t)) ≡ some is → Rest b (c ∷ t) is
+  byte_rest : (b : Before) (c : ℕ) (t : List ℕ) (is : List TypedItem) → length t ≤ n → items_from b (parts (c ∷ t)) ≡ Some is → Rest b (c ∷ t) is
   byte_rest b c t is h e = go (is_space c) refl (eqb c 44) refl
     where
       go : (p : Bool) → is_space c ≡ p → (q : Bool) → eqb c 44 ≡ q → Rest b (c ∷ t) is
@@ -185,23 +185,23 @@ module _ (n : ℕ) (ih : (b : Before) (t : List ℕ) (is : List TypedItem) → l
       go false p false f = word_rest b c t is (in_word_lem c p f) h e
 
 -- ---- the whole text, by its length
-nothing : (b : Before) (is : List TypedItem) → items_from b (parts []) ≡ some is → Rest b [] is
+nothing : (b : Before) (is : List TypedItem) → items_from b (parts []) ≡ Some is → Rest b [] is
 unfolding parts
 nothing b is e = end_rest b is e
 
-base : (b : Before) (t : List ℕ) (is : List TypedItem) → length t ≤ 0 → items_from b (parts t) ≡ some is → Rest b t is
+base : (b : Before) (t : List ℕ) (is : List TypedItem) → length t ≤ 0 → items_from b (parts t) ≡ Some is → Rest b t is
 base b [] is h e = nothing b is e
 base b (c ∷ t) is h e = absurd (not-suc-le-zero h)
 
-longer : (n : ℕ) → ((b : Before) (t : List ℕ) (is : List TypedItem) → length t ≤ n → items_from b (parts t) ≡ some is → Rest b t is)
-    → (b : Before) (t : List ℕ) (is : List TypedItem) → length t ≤ suc n → items_from b (parts t) ≡ some is → Rest b t is
+longer : (n : ℕ) → ((b : Before) (t : List ℕ) (is : List TypedItem) → length t ≤ n → items_from b (parts t) ≡ Some is → Rest b t is)
+    → (b : Before) (t : List ℕ) (is : List TypedItem) → length t ≤ suc n → items_from b (parts t) ≡ Some is → Rest b t is
 longer n ih b [] is h e = nothing b is e
 longer n ih b (c ∷ t) is h e = byte_rest n ih b c t is (le_of_suc-le-suc h) e
 
-rest_of : (n : ℕ) (b : Before) (t : List ℕ) (is : List TypedItem) → length t ≤ n → items_from b (parts t) ≡ some is → Rest b t is
+rest_of : (n : ℕ) (b : Before) (t : List ℕ) (is : List TypedItem) → length t ≤ n → items_from b (parts t) ≡ Some is → Rest b t is
 rest_of zero b t is h e = base b t is h e
 rest_of (suc n) b t is h e = longer n (λ c u js g f. rest_of n c u js g f) b t is h e
 
-pub list_correct : (t : List ℕ) (is : List TypedItem) → items_of t ≡ some is → Listed t is
+pub list_correct : (t : List ℕ) (is : List TypedItem) → items_of t ≡ Some is → Listed t is
 unfolding Rest
 list_correct t is e = rest_of (length t) before.Start t is (le_refl (length t)) e

@@ -118,15 +118,6 @@ typed_whole s at n =
 
 -- ---- a text, by its words
 
-pub item_first : (w : List ℕ) (ws us : List (List ℕ)) → w ∷ ws ≡ us → word_value w ≡ get_or (map word_value us) 0 plus_zero
-item_first w ws us e = ap (λ (l : List (List ℕ)). get_or (map word_value l) 0 plus_zero) e
-
-pub item_none : (us : List (List ℕ)) → [] ≡ us → plus_zero ≡ get_or (map word_value us) 0 plus_zero
-item_none us e = ap (λ (l : List (List ℕ)). get_or (map word_value l) 0 plus_zero) e
-
-pub items_rest : (w : List ℕ) (ws us : List (List ℕ)) → w ∷ ws ≡ us → map word_value ws ≡ drop 1 (map word_value us)
-items_rest w ws us e = ap (λ (l : List (List ℕ)). drop 1 (map word_value l)) e
-
 -- behind the last number nothing is left
 pub items_end : (s : List ℕ) (at len : ℕ) (us : List (List ℕ)) → [] ≡ us → typed_numbers (text_from s at len len) ≡ drop 1 (map word_value us)
 unfolding bytes_from parts words_in
@@ -135,12 +126,6 @@ items_end s at len us e =
     ap (λ (n : ℕ). typed_numbers (bytes_from s (at + len) n)) z ∙ ap (λ (l : List (List ℕ)). drop 1 (map word_value l)) e
 
 -- ---- a walk: one number on
-
--- the number at i, one place on
-pub at_next : (xs : List Float) (i : ℕ) → 0 < i → get_or xs i plus_zero ≡ get_or (drop 1 xs) (i - 1) plus_zero
-at_next [] i h = refl
-at_next (x ∷ xs) zero h = absurd (not-suc-le-zero h)
-at_next (x ∷ xs) (suc i) h = let z : suc i - 1 ≡ i = omega arith in ap (λ (k : ℕ). get_or xs k plus_zero) (sym z)
 
 -- j numbers were passed: the first that is left is the number at j, and behind it are those from j + 1 on
 pub walked_first : (xs ys : List Float) (j : ℕ) → ys ≡ drop j xs → get_or ys 0 plus_zero ≡ get_or xs j plus_zero

@@ -1,5 +1,5 @@
 -- The parts of a text: white space is skipped, a comma is a part, and a word goes up to the next white space or comma. Assumes nothing.
-use Prim.Native.Nat.{ℕ, ◌+◌, ◌-◌, ◌≤◌, ◌<◌}
+use Prim.Native.Nat.{ℕ, zero, suc, ◌+◌, ◌-◌, ◌≤◌, ◌<◌}
 use native.Mathlib.Nat.{add-zero, not-le_of_lt}
 use native.Mathlib.Omega.{arith}
 use mathlib.Core.Path.{◌≡◌, refl, sym, ap, ◌∙◌, subst}
@@ -9,6 +9,8 @@ use lib.ListN.{get_or}
 use lib.Dec.{T, eqb}
 use lib.Ieee.Fits.{and_l, and_r}
 use lib.Ieee.Bits.{is_false}
+use Rattle.std.specs.Prelude.{Option, Some, None}
+use Rattle.std.specs.Option.{MatchOption, unwrap_or}
 use Rattle.bits.specs.Bytes.{bytes_from}
 use Rattle.bits.proofs.Runs.{bytes_from_step, bytes_from_none, bytes_from_more}
 use Rattle.number_list.specs.Text.{Part, comma_part, word_part, is_space, in_word, begins, joined, parts}
@@ -129,6 +131,23 @@ module _ (s : List ℕ) (at left n : ℕ) (k : Skipping s at left n) where
   pub skip_end : left ≤ n → Spaces s at left n
   skip_end h = record { within = k.within; skipped = k.skipped; stop = λ g. absurd (not-le_of_lt g h) }
 
+skip_over : (s : List ℕ) (at left n : ℕ) → n ≤ left → ((k : ℕ) → 0 ≤ k → k < n → is_space (get_or s (at + k) 0) ≡ true) → Skipping s at left n
+skip_over s at left zero h f = skip_start s at left
+skip_over s at left (suc n) h f =
+    let e : suc n ≡ n + 1 = omega arith in
+    rw e (skip_more s at left n (skip_over s at left n (omega arith) (λ k z l. f k z (omega arith))) (omega arith) (f n (omega arith) (omega arith)))
+
+-- what a search for the first byte that is no white space finds
+pub spaces_found : (s : List ℕ) (at left : ℕ) (r : Option ℕ)
+    → MatchOption r
+    ((k : ℕ) → 0 ≤ k → k < left → is_space (get_or s (at + k) 0) ≡ true)
+    (λ i. (0 ≤ i) × (i < left) × (is_space (get_or s (at + i) 0) ≡ false) × ((k : ℕ) → 0 ≤ k → k < i → is_space (get_or s (at + k) 0) ≡ true))
+    → Spaces s at left (unwrap_or r left)
+spaces_found s at left None f =
+    let h : left ≤ left = omega arith in
+    skip_end s at left left (skip_over s at left left h f) h
+spaces_found s at left (Some n) f = skip_stop s at left n (skip_over s at left n (omega arith) f.3) f.1 f.2
+
 -- ---- a word, on the way
 pub record Spelling (s : List ℕ) (at left n : ℕ) : Type 0 where
   pub some : 0 < n
@@ -182,3 +201,21 @@ module _ (s : List ℕ) (at left n : ℕ) (k : Spelling s at left n) where
   spell_end h =
       let z : left - n ≡ 0 = omega arith in
       done (part_end s (at + n) (left - n) z) (rest_end s (at + n) (left - n) z)
+
+spell_over : (s : List ℕ) (at left n : ℕ) → 0 < n → n ≤ left → in_word (get_or s at 0) ≡ true → ((k : ℕ) → 1 ≤ k → k < n → in_word (get_or s (at + k) 0) ≡ true) → Spelling s at left n
+spell_over s at left zero o h w f = absurd (omega arith)
+spell_over s at left (suc zero) o h w f = spell_start s at left (omega arith) w
+spell_over s at left (suc (suc n)) o h w f =
+    let e : suc (suc n) ≡ suc n + 1 = omega arith in
+    rw e (spell_more s at left (suc n) (spell_over s at left (suc n) (omega arith) (omega arith) w (λ k z l. f k z (omega arith))) (omega arith) (f (suc n) (omega arith) (omega arith)))
+
+-- what a search for the first byte behind the word finds
+pub word_found : (s : List ℕ) (at left : ℕ) (r : Option ℕ) → 0 < left → in_word (get_or s at 0) ≡ true
+    → MatchOption r
+    ((k : ℕ) → 1 ≤ k → k < left → in_word (get_or s (at + k) 0) ≡ true)
+    (λ i. (1 ≤ i) × (i < left) × (in_word (get_or s (at + i) 0) ≡ false) × ((k : ℕ) → 1 ≤ k → k < i → in_word (get_or s (at + k) 0) ≡ true))
+    → Word s at left (unwrap_or r left)
+word_found s at left None h w f =
+    let l : left ≤ left = omega arith in
+    spell_end s at left left (spell_over s at left left h l w f) l
+word_found s at left (Some n) h w f = spell_stop s at left n (spell_over s at left n (omega arith) (omega arith) w f.3) f.1 f.2

@@ -1,11 +1,12 @@
 -- Whether a text is read, step by step: at its end, at a comma and at a word, what comes of it is what comes of it after the step. Assumes nothing.
+use Rattle.decimal.specs.declared.TextFault.{TextFault}
+use Rattle.std.specs.Prelude.{Err, None, Ok, Option, Result, Some}
 use Prim.Native.Nat.{ℕ, suc, ◌+◌, ◌-◌, ◌≤◌, ◌<◌}
 use native.Mathlib.Nat.{add-zero, zero-add}
 use native.Mathlib.Omega.{arith}
 use mathlib.Core.Path.{◌≡◌, refl, sym, ap, ◌∙◌}
 use mathlib.Core.Bool.{Bool, true, false, ◌&&◌, cond, and-true, and-false, and_assoc}
 use mathlib.Core.List.{List, [], ◌∷◌, map}
-use mathlib.Core.Option.{Option, none, some}
 use lib.ListN.{length}
 use lib.Dec.{eqb, ltb}
 use borrow.Author.Tests.{lt-ltb, le-ltb, eqb-true, eqb-false}
@@ -14,25 +15,27 @@ use Rattle.decimal.specs.Grammar.{TypedItem, item_of}
 use Rattle.decimal.specs.Limits.{in_limits}
 use Rattle.decimal.specs.Value.{item_value}
 use Rattle.decimal.specs.Means.{item_check}
-use Rattle.decimal.specs.declared.TextCheck.{TextCheck}
-use Rattle.decimal.specs.declared.TextCheck.TheVariants as check
 use Rattle.number_list.specs.declared.Before.{Before}
 use Rattle.number_list.specs.declared.Before.TheVariants as before
-use Rattle.number_list.specs.declared.TextStep.TheVariants as step
+use Rattle.number_list.specs.declared.Place.{Place}
+use Rattle.number_list.specs.declared.Span.{Span}
+use Rattle.number_list.specs.declared.Token.{Token}
+use Rattle.number_list.specs.declared.Token.TheVariants as token
 use Rattle.number_list.specs.Text.{Part, comma_part, word_part, parts, and_more, items_from, items_of}
 use Rattle.number_list.specs.Outcome.{all_in_limits, items_outcome, text_outcome, passed, outside_grammar, outside_limits}
-use Rattle.number_list.specs.Means.{outcome_check, text_from, check_after, check_from, end_check, comma_step, checked_step, word_step, text_step_is, TextStepWithin}
+use Rattle.number_list.specs.Means.{outcome_check, text_from, check_after, check_from, end_check, comma_step, checked_step, word_step, text_step_is, TextStepWithin, place_text, token_is, TokenWithin}
+use Rattle.decimal.specs.declared.TextFault.TheVariants as fault
 
 -- ---- before the first item
 after_none : (o : Option (List TypedItem)) → outcome_check (items_outcome o) ≡ check_after 0 true o
 unfolding items_outcome check_after
-after_none none = refl
-after_none (some is) =
+after_none None = refl
+after_none (Some is) =
     go (ltb 1024 (length is)) (all_in_limits is)
-    ∙ ap (λ (n : ℕ). cond (ltb 1024 n) check.OutsideGrammar (cond (all_in_limits is) check.Passed check.OutsideLimits)) (sym (zero-add (length is)))
+    ∙ ap (λ (n : ℕ). cond (ltb 1024 n) (Err fault.OutsideGrammar) (cond (all_in_limits is) (Ok tt) (Err fault.OutsideLimits))) (sym (zero-add (length is)))
   where
     go : (over within : Bool)
-        → outcome_check (cond over outside_grammar (cond within (passed (map item_value is)) outside_limits)) ≡ cond over check.OutsideGrammar (cond within check.Passed check.OutsideLimits)
+        → outcome_check (cond over outside_grammar (cond within (passed (map item_value is)) outside_limits)) ≡ cond over (Err fault.OutsideGrammar) (cond within (Ok tt) (Err fault.OutsideLimits))
     go true within = refl
     go false true = refl
     go false false = refl
@@ -45,7 +48,7 @@ check_start s at len =
     ∙ ap (λ (l : ℕ). check_after 0 true (items_of (bytes_from s (at + 0) l))) e
 
 -- ---- at the end
-end_items : (n : ℕ) (ok : Bool) → n ≤ 1024 → cond ok check.Passed check.OutsideLimits ≡ check_after n ok (some [])
+end_items : (n : ℕ) (ok : Bool) → n ≤ 1024 → cond ok (Ok tt) (Err fault.OutsideLimits) ≡ check_after n ok (Some [])
 unfolding check_after all_in_limits
 end_items n ok h =
     let z : n + 0 ≤ 1024 = omega arith in
@@ -77,21 +80,21 @@ item_more before.Start w ps = refl
 item_more before.Item w ps = refl
 item_more before.Comma w ps = refl
 
-over : (ok : Bool) (i : TypedItem) (r : Option (List TypedItem)) → check.OutsideGrammar ≡ check_after 1024 ok (and_more (some i) r)
+over : (ok : Bool) (i : TypedItem) (r : Option (List TypedItem)) → (Err fault.OutsideGrammar) ≡ check_after 1024 ok (and_more (Some i) r)
 unfolding check_after and_more
-over ok i none = refl
-over ok i (some is) =
+over ok i None = refl
+over ok i (Some is) =
     let h : 1024 < 1024 + suc (length is) = omega arith in
     rw (lt-ltb 1024 (1024 + suc (length is)) h)
 
-no_number : (n : ℕ) (ok : Bool) (r : Option (List TypedItem)) → check.OutsideGrammar ≡ check_after n ok (and_more none r)
+no_number : (n : ℕ) (ok : Bool) (r : Option (List TypedItem)) → (Err fault.OutsideGrammar) ≡ check_after n ok (and_more None r)
 unfolding check_after and_more
 no_number n ok r = refl
 
-one_more : (n : ℕ) (ok : Bool) (i : TypedItem) (r : Option (List TypedItem)) → check_after (n + 1) (ok && in_limits i) r ≡ check_after n ok (and_more (some i) r)
+one_more : (n : ℕ) (ok : Bool) (i : TypedItem) (r : Option (List TypedItem)) → check_after (n + 1) (ok && in_limits i) r ≡ check_after n ok (and_more (Some i) r)
 unfolding check_after and_more all_in_limits
-one_more n ok i none = refl
-one_more n ok i (some is) =
+one_more n ok i None = refl
+one_more n ok i (Some is) =
     let e : n + 1 + length is ≡ n + suc (length is) = omega arith in
     rw (e, and_assoc ok (in_limits i) (all_in_limits is))
 
@@ -99,26 +102,26 @@ module _ (s : List ℕ) (at len next n : ℕ) (ok : Bool) where
   rest : Option (List TypedItem)
   rest = items_from before.Item (parts (text_from s at len next))
 
-  step_within : (b : Bool) → text_step_is s at len (checked_step (cond b check.Passed check.OutsideLimits) next n ok) ≡ check_after (n + 1) (ok && b) rest
+  step_within : (b : Bool) → text_step_is s at len (checked_step (cond b (Ok tt) (Err fault.OutsideLimits)) next n ok) ≡ check_after (n + 1) (ok && b) rest
   unfolding rest
   step_within true = rw (and-true ok)
   step_within false = rw (and-false ok)
 
   step_item : (o : Option TypedItem) → text_step_is s at len (word_step (item_check o) next n ok) ≡ check_after n ok (and_more o rest)
   unfolding item_check rest
-  step_item none = go (eqb n 1024)
+  step_item None = go (eqb n 1024)
     where
-      go : (b : Bool) → text_step_is s at len (cond b (step.Done check.OutsideGrammar) (step.Done check.OutsideGrammar)) ≡ check_after n ok (and_more none rest)
+      go : (b : Bool) → text_step_is s at len (cond b (Err fault.OutsideGrammar) (Err fault.OutsideGrammar)) ≡ check_after n ok (and_more None rest)
       go true = no_number n ok rest
       go false = no_number n ok rest
-  step_item (some i) = go (eqb n 1024) refl
+  step_item (Some i) = go (eqb n 1024) refl
     where
-      full : n ≡ 1024 → check.OutsideGrammar ≡ check_after n ok (and_more (some i) rest)
-      full e = over ok i rest ∙ ap (λ (k : ℕ). check_after k ok (and_more (some i) rest)) (sym e)
+      full : n ≡ 1024 → (Err fault.OutsideGrammar) ≡ check_after n ok (and_more (Some i) rest)
+      full e = over ok i rest ∙ ap (λ (k : ℕ). check_after k ok (and_more (Some i) rest)) (sym e)
 
       go : (b : Bool) → eqb n 1024 ≡ b
-          → text_step_is s at len (cond b (step.Done check.OutsideGrammar) (checked_step (cond (in_limits i) check.Passed check.OutsideLimits) next n ok))
-          ≡ check_after n ok (and_more (some i) rest)
+          → text_step_is s at len (cond b (Err fault.OutsideGrammar) (checked_step (cond (in_limits i) (Ok tt) (Err fault.OutsideLimits)) next n ok))
+          ≡ check_after n ok (and_more (Some i) rest)
       go true e = full (eqb-true n 1024 e)
       go false e = step_within (in_limits i) ∙ one_more n ok i rest
 
@@ -126,7 +129,7 @@ module _ (s : List ℕ) (at len next n : ℕ) (ok : Bool) where
   unfolding rest
   step_word b w = step_item (item_of w) ∙ ap (check_after n ok) (sym (item_more b w (parts (text_from s at len next))))
 
-  pub word_within : (from : ℕ) (v : TextCheck) → from < next → next ≤ len → n ≤ 1024 → TextStepWithin len from (word_step v next n ok)
+  pub word_within : (from : ℕ) (v : Result (Unit {0}) TextFault) → from < next → next ≤ len → n ≤ 1024 → TextStepWithin len from (word_step v next n ok)
   word_within from v f g h = go (eqb n 1024) refl v
     where
       less : (eqb n 1024 ≡ false) → n + 1 ≤ 1024
@@ -135,8 +138,33 @@ module _ (s : List ℕ) (at len next n : ℕ) (ok : Bool) where
           below : (n ≡ 1024 → ⊥) → n + 1 ≤ 1024
           below k = omega arith
 
-      go : (b : Bool) → eqb n 1024 ≡ b → (v : TextCheck) → TextStepWithin len from (cond b (step.Done check.OutsideGrammar) (checked_step v next n ok))
+      go : (b : Bool) → eqb n 1024 ≡ b → (v : Result (Unit {0}) TextFault) → TextStepWithin len from (cond b (Err fault.OutsideGrammar) (checked_step v next n ok))
       go true e v = tt
-      go false e check.Passed = (f, g, less e)
-      go false e check.OutsideLimits = (f, g, less e)
-      go false e check.OutsideGrammar = tt
+      go false e (Ok tt) = (f, g, less e)
+      go false e (Err fault.OutsideLimits) = (f, g, less e)
+      go false e (Err fault.OutsideGrammar) = tt
+
+-- ---- by what stands next: a step is right, and goes on within the text
+module _ (s : List ℕ) (p : Place) (t : Option Token) (n : ℕ) (ok : Bool) (b : Before) (h : n ≤ 1024) (e : token_is s p t ≡ parts (place_text s p)) (w : TokenWithin p t) where
+  pub goes_end : t ≡ None → end_check b ok ≡ check_from s p.at p.len p.from b n ok
+  goes_end f =
+      let q = rw f at e in
+      step_end_lem b n ok h ∙ ap (λ (ps : List Part). check_after n ok (items_from b ps)) q
+
+  pub goes_comma : (next : ℕ) → t ≡ Some (token.Comma next)
+      → (text_step_is s p.at p.len (comma_step b next n ok) ≡ check_from s p.at p.len p.from b n ok) × TextStepWithin p.len p.from (comma_step b next n ok)
+  goes_comma next f =
+      let q = rw f at e in
+      let v = rw f at w in
+      (step_comma s p.at p.len next n ok b ∙ ap (λ (ps : List Part). check_after n ok (items_from b ps)) q, comma_within s p.at p.len next n ok p.from b v.0 v.1 h)
+
+  pub goes_word : (x : Span) → t ≡ Some (token.Word x) → (k : Result (Unit {0}) TextFault) → k ≡ item_check (item_of (bytes_from s (p.at + x.from) x.len))
+      → (text_step_is s p.at p.len (word_step k (x.from + x.len) n ok) ≡ check_from s p.at p.len p.from b n ok) × TextStepWithin p.len p.from (word_step k (x.from + x.len) n ok)
+  goes_word x f k g =
+      let q = rw f at e in
+      let v = rw f at w in
+      let past : p.from < x.from + x.len = omega (arith, v.0, v.1) in
+      rw g (
+        step_word s p.at p.len (x.from + x.len) n ok b _ ∙ ap (λ (ps : List Part). check_after n ok (items_from b ps)) q,
+        word_within s p.at p.len (x.from + x.len) n ok p.from (item_check (item_of (bytes_from s (p.at + x.from) x.len))) past v.2 h,
+      )

@@ -54,3 +54,6 @@ module _ (s : List ℕ) (at len from : ℕ) where
         ∙ w.first
         ∙ ap (λ (x : ℕ). word_part (bytes_from s (at + (from + n)) j) ∷ parts (bytes_from s x (len - (from + n) - j))) a
         ∙ ap (λ (x : ℕ). word_part (bytes_from s (at + (from + n)) j) ∷ parts (bytes_from s (at + (from + n + j)) x)) l)
+
+-- the next part, by what stands there
+pub ruleset next_part = (text_end, spaces_end, comma_next, word_here, word_next)

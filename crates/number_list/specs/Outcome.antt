@@ -1,6 +1,5 @@
 -- What comes of a typed list, and its numbers: document 02, [2]. Definitions only.
-use Rattle.std.specs.Prelude.{ℕ, Bool, true, ◌&&◌, cond, List, [], ◌∷◌, map, length, ltb, Float}
-use Rattle.std.proofs.Math.Option.{Option, none, some}
+use Rattle.std.specs.Prelude.{ℕ, Bool, true, ◌&&◌, cond, List, [], ◌∷◌, map, length, ltb, Float, None, Option, Some}
 use Rattle.sheet_fields.specs.Fields.{size_numbers_most}
 use Rattle.decimal.specs.Grammar.{TypedItem, item_of}
 use Rattle.decimal.specs.Limits.{in_limits}
@@ -20,8 +19,8 @@ pub data TextOutcome : Type 0 where
 
 -- by the items of a text, or none
 unfoldable pub items_outcome : Option (List TypedItem) → TextOutcome
-items_outcome none = outside_grammar
-items_outcome (some is) = cond (ltb size_numbers_most (length is)) outside_grammar (cond (all_in_limits is) (passed (map item_value is)) outside_limits)
+items_outcome None = outside_grammar
+items_outcome (Some is) = cond (ltb size_numbers_most (length is)) outside_grammar (cond (all_in_limits is) (passed (map item_value is)) outside_limits)
 
 abbrev pub text_outcome : List ℕ → TextOutcome
 text_outcome t = items_outcome (items_of t)

@@ -1,7 +1,6 @@
 -- A list of numbers as it is typed, a text of bytes: "items parted by white space (space, tab, line feed, carriage return), one comma, or a comma
 -- among white space; outer white space is allowed and empty text is the empty list". Definitions only.
-use Rattle.std.specs.Prelude.{ℕ, Bool, true, false, not, ◌&&◌, ◌||◌, cond, List, [], ◌∷◌, eqb}
-use Rattle.std.proofs.Math.Option.{Option, none, some}
+use Rattle.std.specs.Prelude.{ℕ, Bool, true, false, not, ◌&&◌, ◌||◌, cond, List, [], ◌∷◌, eqb, None, Option, Some}
 use Rattle.decimal.specs.Grammar.{TypedItem, item_of}
 use Rattle.number_list.specs.declared.Before.{Before}
 use Rattle.number_list.specs.declared.Before.TheVariants as before
@@ -40,18 +39,18 @@ parts (b ∷ t) = cond (is_space b) (parts t) (cond (eqb b 44) (comma_part ∷ p
 
 -- an item and those after it, if each of them is one
 unfoldable pub and_more : Option TypedItem → Option (List TypedItem) → Option (List TypedItem)
-and_more none rest = none
-and_more (some i) none = none
-and_more (some i) (some is) = some (i ∷ is)
+and_more None rest = None
+and_more (Some i) None = None
+and_more (Some i) (Some is) = Some (i ∷ is)
 
 -- by what stands before: nothing, an item, or a comma
 unfoldable pub items_from : Before → List Part → Option (List TypedItem)
-items_from before.Start [] = some []
-items_from before.Item [] = some []
-items_from before.Comma [] = none
-items_from before.Start (comma_part ∷ ps) = none
+items_from before.Start [] = Some []
+items_from before.Item [] = Some []
+items_from before.Comma [] = None
+items_from before.Start (comma_part ∷ ps) = None
 items_from before.Item (comma_part ∷ ps) = items_from before.Comma ps
-items_from before.Comma (comma_part ∷ ps) = none
+items_from before.Comma (comma_part ∷ ps) = None
 items_from before.Start (word_part w ∷ ps) = and_more (item_of w) (items_from before.Item ps)
 items_from before.Item (word_part w ∷ ps) = and_more (item_of w) (items_from before.Item ps)
 items_from before.Comma (word_part w ∷ ps) = and_more (item_of w) (items_from before.Item ps)

@@ -1,18 +1,16 @@
 -- What holds of every child that a node counts as holds of the chain's children, and what holds of every refusal that a node gives holds of the chain's;
 -- and a chain has at most one child a node. Assumes nothing.
+use Rattle.std.specs.Prelude.{None, Option, Some}
 use Prim.Native.Nat.{ℕ, suc, ◌≤◌}
 use native.Mathlib.Omega.{arith}
 use mathlib.Core.Path.{◌≡◌, refl}
 use mathlib.Core.Bool.{Bool, true, false, cond}
 use mathlib.Core.List.{List, [], ◌∷◌}
-use mathlib.Core.Option.{Option}
 use lib.Dec.{eqb}
 use lib.ListN.{length}
 use Rattle.answer.specs.declared.Refusal.{Refusal}
 use Rattle.names.specs.Ids.{aid_result}
 use Rattle.geom.specs.declared.Rect.{Rect}
-use Rattle.geom.specs.declared.MaybeRect.{MaybeRect}
-use Rattle.geom.specs.declared.MaybeRect.TheVariants as rect
 use Rattle.svgtree.specs.Values.{Node}
 use Rattle.svgtree.specs.Readers.{text_of, child_nodes}
 use Rattle.tree.specs.Input.{Name}
@@ -88,16 +86,16 @@ module _ (P : Child → Type 0) where
     -- N is known of the nodes from a node on: of the node's child by its kind (K) and its subregion, and of the nodes behind it
     module _ (f : Frame) (N : List Node → Type 0) (K : Kind (Option Name) → Type 0)
         (kind : (n : Node) (rest : List Node) → N (n ∷ rest) → MadeAll K R (kind_of f n (child_nodes rest)))
-        (child : (n : Node) (rest : List Node) → N (n ∷ rest) → (r : Rect) → region_of f n ≡ rect.Is r → (k : Kind (Option Name)) → K k → P (child_of n r k))
+        (child : (n : Node) (rest : List Node) → N (n ∷ rest) → (r : Rect) → region_of f n ≡ Some r → (k : Kind (Option Name)) → K k → P (child_of n r k))
         (behind : (n : Node) (rest : List Node) → N (n ∷ rest) → N rest) where
       kind_step_lem : (n : Node) (r : Rect) (m : ElementKind) → ((k : Kind (Option Name)) → K k → P (child_of n r k)) → MadeAll K R m → StepAll (kind_step n r m)
       kind_step_lem n r (made k) c h = c k h
       kind_step_lem n r no_primitive c h = tt
       kind_step_lem n r (element.refused why) c h = h
 
-      region_step_lem : (n : Node) (rest : List Node) → N (n ∷ rest) → (m : MaybeRect) → region_of f n ≡ m → StepAll (region_step f n (child_nodes rest) m)
-      region_step_lem n rest h (rect.Is r) e = kind_step_lem n r (kind_of f n (child_nodes rest)) (child n rest h r e) (kind n rest h)
-      region_step_lem n rest h rect.No e = tt
+      region_step_lem : (n : Node) (rest : List Node) → N (n ∷ rest) → (m : Option Rect) → region_of f n ≡ m → StepAll (region_step f n (child_nodes rest) m)
+      region_step_lem n rest h (Some r) e = kind_step_lem n r (kind_of f n (child_nodes rest)) (child n rest h r e) (kind n rest h)
+      region_step_lem n rest h None e = tt
 
       passed_over : (b : Bool) (x : Step) → StepAll x → StepAll (cond b pass x)
       passed_over true x h = tt

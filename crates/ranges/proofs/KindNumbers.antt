@@ -1,9 +1,15 @@
 -- Every kind that `elements` makes of a node has no NaN and its numbers in range, given a sound scale and the node's flood colour and opacity; and
 -- resolving its inputs leaves its numbers as they are. Each line joins the theorems of the kind's own crate. Assumes nothing.
+use Rattle.tree.specs.declared.Turbulence.{Turbulence as TurbulenceFields}
+use Rattle.tree.specs.declared.DisplacementMap.{DisplacementMap as DisplacementMapFields}
+use Rattle.answer.specs.declared.Refusal.{Refusal}
+use Rattle.tree.specs.declared.Morphology.{Morphology as MorphologyFields}
+use Rattle.tree.specs.declared.SpecularLighting.{SpecularLighting as SpecularLightingFields}
+use Rattle.tree.specs.declared.DiffuseLighting.{DiffuseLighting as DiffuseLightingFields}
+use Rattle.std.specs.Prelude.{Err, None, Ok, Option, Result, Some}
 use mathlib.Core.Path.{◌≡◌, sym}
 use mathlib.Core.Bool.{true, false, true≢false}
 use mathlib.Core.List.{List, [], ◌∷◌}
-use mathlib.Core.Option.{Option, none, some}
 use lib.Dec.{T, leb}
 use lib.Ieee.{Float, nan, inf, fin, lt}
 use Rattle.names.specs.Ids.{aid_flood_opacity}
@@ -36,21 +42,11 @@ use Rattle.fe_color.proofs.Numbers.{color_matrix_finite, color_matrix_range, com
 use Rattle.fe_kernel.specs.ConvolveMatrix.{convolve_matrix_of}
 use Rattle.fe_kernel.specs.ProofRanges.{ConvolveMatrixOk}
 use Rattle.fe_kernel.proofs.Ranges.{convolve_matrix_ok}
-use Rattle.fe_light.specs.declared.diffuse_lighting.MaybeDiffuseLighting.{MaybeDiffuseLighting}
-use Rattle.fe_light.specs.declared.diffuse_lighting.MaybeDiffuseLighting.TheVariants as diffuse
-use Rattle.fe_light.specs.declared.specular_lighting.MaybeSpecularLighting.{MaybeSpecularLighting}
-use Rattle.fe_light.specs.declared.specular_lighting.MaybeSpecularLighting.TheVariants as specular
 use Rattle.fe_light.specs.DiffuseLighting.{diffuse_lighting_of}
 use Rattle.fe_light.specs.SpecularLighting.{specular_lighting_of}
 use Rattle.fe_light.specs.Ranges.{diffuse_numbers, specular_numbers}
 use Rattle.fe_light.specs.ProofRanges.{DiffuseOk, SpecularOk}
 use Rattle.fe_light.proofs.Ranges.{diffuse_ok, specular_ok}
-use Rattle.fe_morphology.specs.declared.MaybeMorphology.{MaybeMorphology}
-use Rattle.fe_morphology.specs.declared.MaybeMorphology.TheVariants as morphology
-use Rattle.fe_displacement_map.specs.declared.MaybeDisplacementMap.{MaybeDisplacementMap}
-use Rattle.fe_displacement_map.specs.declared.MaybeDisplacementMap.TheVariants as displacement
-use Rattle.fe_turbulence.specs.declared.MaybeTurbulence.{MaybeTurbulence}
-use Rattle.fe_turbulence.specs.declared.MaybeTurbulence.TheVariants as turbulence
 use Rattle.fe_morphology.specs.Morphology.{morphology_of}
 use Rattle.fe_displacement_map.specs.DisplacementMap.{displacement_map_of}
 use Rattle.fe_turbulence.specs.Turbulence.{turbulence_of}
@@ -100,33 +96,33 @@ flood_sound : MadeSound (made (Flood transparent_black))
 flood_sound = record { numbers = (opacity_num plus_zero transparent_black_range.opacity, tt); ranges = transparent_black_range }
 
 convolve_sound : (n : Node) (o : Option ConvolveMatrixFields) → ConvolveMatrixOk o → MadeSound (convolve_made n o)
-convolve_sound n none h = flood_sound
-convolve_sound n (some v) h =
+convolve_sound n None h = flood_sound
+convolve_sound n (Some v) h =
     record {
       numbers = each_append IsNumber v.matrix.numbers (v.divisor ∷ v.bias ∷ []) (each_num v.matrix.numbers h.matrix.numbers) (h.divisor_number, (finite_num v.bias h.bias, tt));
       ranges = h;
     }
 
-diffuse_sound : (n : Node) (m : MaybeDiffuseLighting) → DiffuseOk m → MadeSound (diffuse_made n m)
-diffuse_sound n (diffuse.Is v) h = record { numbers = each_num (diffuse_numbers v) h.numbers; ranges = h }
-diffuse_sound n diffuse.No h = flood_sound
+diffuse_sound : (n : Node) (m : Option DiffuseLightingFields) → DiffuseOk m → MadeSound (diffuse_made n m)
+diffuse_sound n (Some v) h = record { numbers = each_num (diffuse_numbers v) h.numbers; ranges = h }
+diffuse_sound n None h = flood_sound
 
-specular_sound : (n : Node) (m : MaybeSpecularLighting) → SpecularOk m → MadeSound (specular_made n m)
-specular_sound n (specular.Is v) h = record { numbers = each_num (specular_numbers v) h.numbers; ranges = h }
-specular_sound n specular.No h = flood_sound
+specular_sound : (n : Node) (m : Option SpecularLightingFields) → SpecularOk m → MadeSound (specular_made n m)
+specular_sound n (Some v) h = record { numbers = each_num (specular_numbers v) h.numbers; ranges = h }
+specular_sound n None h = flood_sound
 
-morphology_sound : (n : Node) (m : MaybeMorphology) → MorphologyOk m → MadeSound (morphology_made n m)
-morphology_sound n (morphology.Is v) h = record { numbers = (positive_num v.radius_x h.radius_x, (positive_num v.radius_y h.radius_y, tt)); ranges = h }
-morphology_sound n (morphology.Refused why) h = tt
+morphology_sound : (n : Node) (m : Result MorphologyFields Refusal) → MorphologyOk m → MadeSound (morphology_made n m)
+morphology_sound n (Ok v) h = record { numbers = (positive_num v.radius_x h.radius_x, (positive_num v.radius_y h.radius_y, tt)); ranges = h }
+morphology_sound n (Err why) h = tt
 
-displacement_sound : (n : Node) (m : MaybeDisplacementMap) → DisplacementMapOk m → MadeSound (displacement_made n m)
-displacement_sound n (displacement.Is v) h = record { numbers = (h.scale, tt); ranges = tt }
-displacement_sound n (displacement.Refused why) h = tt
+displacement_sound : (n : Node) (m : Result DisplacementMapFields Refusal) → DisplacementMapOk m → MadeSound (displacement_made n m)
+displacement_sound n (Ok v) h = record { numbers = (h.scale, tt); ranges = tt }
+displacement_sound n (Err why) h = tt
 
-turbulence_sound : (m : MaybeTurbulence) → TurbulenceOk m → MadeSound (turbulence_made m)
-turbulence_sound (turbulence.Is v) h =
+turbulence_sound : (m : Result TurbulenceFields Refusal) → TurbulenceOk m → MadeSound (turbulence_made m)
+turbulence_sound (Ok v) h =
     record { numbers = (positive_num v.base_frequency_x h.frequency_x, (positive_num v.base_frequency_y h.frequency_y, tt)); ranges = h }
-turbulence_sound (turbulence.Refused why) h = tt
+turbulence_sound (Err why) h = tt
 
 -- ---- the elements, one line a tag
 

@@ -1,11 +1,15 @@
 -- No child is refused with 7: every number that is read is finite, so a base frequency whose sign is clear is not below zero. This holds of any nodes,
 -- since a number that is not finite is read as +0; of an accepted sheet that +0 is never read (`read_as_given` of `sheet_accepted`). Assumes nothing.
+use Rattle.tree.specs.declared.SpecularLighting.{SpecularLighting}
+use Rattle.tree.specs.declared.DiffuseLighting.{DiffuseLighting}
+use Rattle.tree.specs.declared.DisplacementMap.{DisplacementMap}
+use Rattle.tree.specs.declared.Morphology.{Morphology}
+use Rattle.std.specs.Prelude.{Err, None, Ok, Option, Result, Some}
 use Prim.Native.Nat.{ℕ}
 use native.Mathlib.Omega.{arith}
 use mathlib.Core.Path.{◌≡◌, refl, subst}
 use mathlib.Core.Bool.{Bool, true, false, not, cond, ◌&&◌}
 use mathlib.Core.List.{List}
-use mathlib.Core.Option.{Option, none, some}
 use lib.Dec.{T}
 use lib.Ieee.{Float, fin}
 use lib.Ieee.Scale.{finite}
@@ -31,18 +35,8 @@ use Rattle.fe_morphology.specs.Morphology.{morphology_of}
 use Rattle.fe_displacement_map.specs.DisplacementMap.{displacement_map_of}
 use Rattle.fe_turbulence.specs.Turbulence.{frequency_of, turbulence_with}
 use Rattle.fe.specs.declared.pair.Pair.{Pair}
-use Rattle.fe.specs.declared.pair.MaybePair.{MaybePair}
-use Rattle.fe.specs.declared.pair.MaybePair.TheVariants as maybe-pair
-use Rattle.fe_morphology.specs.declared.MaybeMorphology.{MaybeMorphology}
-use Rattle.fe_morphology.specs.declared.MaybeMorphology.TheVariants as morphology
-use Rattle.fe_displacement_map.specs.declared.MaybeDisplacementMap.{MaybeDisplacementMap}
-use Rattle.fe_displacement_map.specs.declared.MaybeDisplacementMap.TheVariants as displacement
 use Rattle.fe_morphology.proofs.Refusals.{morphology_refusal}
 use Rattle.fe_displacement_map.proofs.Refusals.{displacement_refusal}
-use Rattle.fe_light.specs.declared.diffuse_lighting.MaybeDiffuseLighting.{MaybeDiffuseLighting}
-use Rattle.fe_light.specs.declared.diffuse_lighting.MaybeDiffuseLighting.TheVariants as diffuse
-use Rattle.fe_light.specs.declared.specular_lighting.MaybeSpecularLighting.{MaybeSpecularLighting}
-use Rattle.fe_light.specs.declared.specular_lighting.MaybeSpecularLighting.TheVariants as specular
 use Rattle.fe_light.specs.DiffuseLighting.{diffuse_lighting_of}
 use Rattle.fe_light.specs.SpecularLighting.{specular_lighting_of}
 use Rattle.fe_kernel.specs.ConvolveMatrix.{convolve_matrix_of}
@@ -55,9 +49,9 @@ use Rattle.num.proofs.Each.{◌and◌}
 
 -- ---- base frequencies
 
-abbrev Given : MaybePair → Type 0
-Given (maybe-pair.Is p) = Unit {0}
-Given maybe-pair.No = ⊥
+abbrev Given : Option Pair → Type 0
+Given (Some p) = Unit {0}
+Given None = ⊥
 
 clear_plus : (x : Float) → T (finite x) → T (not (sign_negative x)) → T (plus x)
 clear_plus (fin s m e) f h = h
@@ -68,7 +62,7 @@ positive_given : (p : Pair) → T (positive p.x) → T (positive p.y) → Given 
 unfolding if_positive
 positive_given p hx hy = go (positive p.x && positive p.y) (and_i (positive p.x) (positive p.y) hx hy)
   where
-    go : (b : Bool) → T b → Given (cond b (maybe-pair.Is p) maybe-pair.No)
+    go : (b : Bool) → T b → Given (cond b (Some p) None)
     go true h = tt
     go false h = elim h [ ]
 
@@ -80,10 +74,10 @@ clear_given p fx fy h =
     positive_given p (plus_positive p.x fx (clear_plus p.x fx (and_l x y h))) (plus_positive p.y fy (clear_plus p.y fy (and_r x y h)))
 
 frequency_given : (o : Option (List Float)) → ListHolds IsFinite o → Given (frequency_of o)
-frequency_given none h = tt
-frequency_given (some xs) h = go (signs_clear (pair_in xs)) (λ c. c)
+frequency_given None h = tt
+frequency_given (Some xs) h = go (signs_clear (pair_in xs)) (λ c. c)
   where
-    go : (b : Bool) → (T b → T (signs_clear (pair_in xs))) → Given (cond b (if_positive (pair_in xs)) (maybe-pair.Is (pair_of plus_zero plus_zero)))
+    go : (b : Bool) → (T b → T (signs_clear (pair_in xs))) → Given (cond b (if_positive (pair_in xs)) (Some (pair_of plus_zero plus_zero)))
     go true f = clear_given (pair_in xs) (pair_holds IsFinite zero_finite xs h).0 (pair_holds IsFinite zero_finite xs h).1 (f tt)
     go false f = tt
 
@@ -101,29 +95,29 @@ MadeGoes m = MadeAll AnyKind NotSeven m
 six_goes : {why : Refusal} → why ≡ Unrepresentable → NotSeven why
 six_goes e q = let z : ◌≡◌ {A = ℕ} 0 1 = cc in omega arith
 
-turbulence_made_lem : (n : Node) (m : MaybePair) → Given m → MadeGoes (turbulence_made (turbulence_with n m))
-turbulence_made_lem n (maybe-pair.Is p) h = tt
-turbulence_made_lem n maybe-pair.No h = elim h [ ]
+turbulence_made_lem : (n : Node) (m : Option Pair) → Given m → MadeGoes (turbulence_made (turbulence_with n m))
+turbulence_made_lem n (Some p) h = tt
+turbulence_made_lem n None h = elim h [ ]
 
 convolve_made_lem : (n : Node) (o : Option ConvolveMatrixFields) → MadeGoes (convolve_made n o)
-convolve_made_lem n none = tt
-convolve_made_lem n (some v) = tt
+convolve_made_lem n None = tt
+convolve_made_lem n (Some v) = tt
 
-morphology_made_lem : (n : Node) (z : Size) (m : MaybeMorphology) → morphology_of n z ≡ m → MadeGoes (morphology_made n m)
-morphology_made_lem n z (morphology.Is v) e = tt
-morphology_made_lem n z (morphology.Refused why) e = six_goes (morphology_refusal n z why e)
+morphology_made_lem : (n : Node) (z : Size) (m : Result Morphology Refusal) → morphology_of n z ≡ m → MadeGoes (morphology_made n m)
+morphology_made_lem n z (Ok v) e = tt
+morphology_made_lem n z (Err why) e = six_goes (morphology_refusal n z why e)
 
-displacement_made_lem : (n : Node) (z : Size) (m : MaybeDisplacementMap) → displacement_map_of n z ≡ m → MadeGoes (displacement_made n m)
-displacement_made_lem n z (displacement.Is v) e = tt
-displacement_made_lem n z (displacement.Refused why) e = six_goes (displacement_refusal n z why e)
+displacement_made_lem : (n : Node) (z : Size) (m : Result DisplacementMap Refusal) → displacement_map_of n z ≡ m → MadeGoes (displacement_made n m)
+displacement_made_lem n z (Ok v) e = tt
+displacement_made_lem n z (Err why) e = six_goes (displacement_refusal n z why e)
 
-diffuse_made_lem : (n : Node) (m : MaybeDiffuseLighting) → MadeGoes (diffuse_made n m)
-diffuse_made_lem n (diffuse.Is v) = tt
-diffuse_made_lem n diffuse.No = tt
+diffuse_made_lem : (n : Node) (m : Option DiffuseLighting) → MadeGoes (diffuse_made n m)
+diffuse_made_lem n (Some v) = tt
+diffuse_made_lem n None = tt
 
-specular_made_lem : (n : Node) (m : MaybeSpecularLighting) → MadeGoes (specular_made n m)
-specular_made_lem n (specular.Is v) = tt
-specular_made_lem n specular.No = tt
+specular_made_lem : (n : Node) (m : Option SpecularLighting) → MadeGoes (specular_made n m)
+specular_made_lem n (Some v) = tt
+specular_made_lem n None = tt
 
 kind_made : (f : Frame) (n : Node) (children : List Node) → MadeGoes (kind_of f n children)
 unfolding kind_of

@@ -3,85 +3,82 @@
 // A list is stored as its name's length in one byte, its own length in four, the lowest first; then the name, then the list.
 #![tactic(auto)]
 
-use bits::{byte, get32, wide8, wide32};
-use input::read_full;
+ghost use Rattle.std.specs.Prelude.{◌≤◌};
+
+use bits::get32;
+use input::{ReadError, read_head, read_part};
 use list_layout::in_layout;
 use list_read::ListForm;
 use std::io;
 use std::io::Read;
 
-// 1 where the list is in the layout, 0 where it is not.
-fn read_list(rt: &impl Print, name: &[u8], list: &[u8]) -> io::Result<u32> {
-    rt.write_all(name)?;
-    if in_layout(list, ListForm::One) {
-        println!(rt; ": in")?;
-        return Ok(1);
-    }
-    println!(rt; ": out")?;
-    Ok(0)
+#[derive(Drop)]
+struct Buffers {
+    name: [u8; 255],
+    list: [u8; 65536],
 }
 
-fn read_part(input: &mut impl Read, buf: &mut [u8], n: usize) -> io::Result<bool> {
-    if n > buf.len() {
-        return Ok(false);
-    }
-    Ok(read_full(input, &mut buf[0..n])? == n)
+#[derive(Clone, Copy)]
+struct Stored<'a> {
+    name: &'a [u8],
+    list: &'a [u8],
 }
 
-fn read_parts(rt: &impl Print, name: &[u8], k: usize, list: &[u8], n: usize) -> io::Result<u32> {
-    if k > name.len() {
-        return Ok(3);
+impl Buffers {
+    // Reads the next list, or gives None at the end of the input.
+    fn next_list(&mut self, input: &mut impl Read) -> Result<Option<Stored<'_>>, ReadError> {
+        let Some(head) = read_head::<_, 5>(input)? else {
+            return Ok(None);
+        };
+        let Buffers { name, list } = self;
+        let name = read_part(input, name, usize::from(head[0]))?;
+        let list = read_part(input, list, get32(&head, 1) as usize)?;
+        Ok(Some(Stored { name, list }))
     }
-    if n > list.len() {
-        return Ok(3);
-    }
-    read_list(rt, &name[0..k], &list[0..n])
 }
 
-// Reads the next list: 0 or 1 as `read_list` says, 2 at the end of the input, 3 where a list is cut short.
-fn next_list(rt: &impl Print, input: &mut impl Read, list: &mut [u8]) -> io::Result<u32> {
-    let mut head = [0u8; 5];
-    let mut name = [0u8; 255];
-    let got = read_full(input, &mut head)?;
-    if got == 0 {
-        return Ok(2);
+impl Stored<'_> {
+    // Prints the list's line, and says whether the list is in the layout.
+    fn check(self, rt: &impl Print) -> io::Result<bool> {
+        let is_inside = in_layout(self.list, ListForm::One);
+        rt.write_all(self.name)?;
+        rt.println(if is_inside { ": in" } else { ": out" })?;
+        Ok(is_inside)
     }
-    if got < 5 {
-        return Ok(3);
-    }
-    let k = wide8(byte(&head, 0));
-    let n = wide32(get32(&head, 1));
-    if !read_part(input, &mut name, k)? {
-        return Ok(3);
-    }
-    if !read_part(input, list, n)? {
-        return Ok(3);
-    }
-    read_parts(rt, &name, k, list, n)
 }
 
-fn report(rt: &impl Print, lists: u32, inside: u32, outside: u32, end: u32) -> io::Result<()> {
-    println!(rt; "{lists} lists, {inside} in the layout, {outside} not")?;
-    if end != 2 {
+fn report(rt: &impl Print, lists: u32, inside: u32, is_whole: bool) -> io::Result<()>
+    requires { inside ≤ lists }
+{
+    println!(rt;
+        "{lists} lists, {inside} in the layout, {} not",
+        lists - inside
+    )?;
+    if !is_whole {
         println!(rt; "the input is cut short")?;
     }
     Ok(())
 }
 
 // The loop has a last turn, since nothing says that an input ends.
-fn run(rt: &impl Print, input: &mut impl Read, list: &mut [u8]) -> io::Result<()> {
-    let mut inside: u32 = 0;
+fn run(rt: &impl Print, input: &mut impl Read, buffers: &mut Buffers) -> io::Result<()> {
+    let mut inside = 0;
     for lists in 0..100_000 {
-        let code = next_list(rt, input, list)?;
-        if code > 1 {
-            return report(rt, lists, inside, lists - inside, code);
-        }
-        inside += code;
+        let stored = match buffers.next_list(input) {
+            Ok(Some(stored)) => stored,
+            Ok(None) => return report(rt, lists, inside, true),
+            Err(ReadError::Broken) => return report(rt, lists, inside, false),
+            Err(ReadError::Io(e)) => return Err(e),
+        };
+        inside += u32::from(stored.check(rt)?);
     }
-    report(rt, 100_000, inside, 100_000 - inside, 3)
+    report(rt, 100_000, inside, false)
 }
 
 fn main(rt: HostRuntime) -> io::Result<()> {
-    let mut list = [0u8; 65536];
-    run(&rt, &mut rt.stdin(), &mut list)
+    let mut buffers = Buffers {
+        name: [0; 255],
+        list: [0; 65536],
+    };
+    run(&rt, &mut rt.stdin(), &mut buffers)
 }

@@ -1,21 +1,18 @@
 -- The filter region, and what the children are converted with: document 01, the table's numbers 5 and 6. Definitions only.
-use Rattle.std.specs.Prelude.{Float}
+use Rattle.answer.specs.declared.Refusal.{Refusal}
+use Rattle.std.specs.Prelude.{Float, Err, None, Ok, Option, Result, Some}
 use Rattle.std.specs.Float.{binary32}
 use Rattle.std.specs.Float.Ieee.{of_bits}
 use Rattle.answer.specs.declared.Refusal.TheVariants.{NoRegion, Unrepresentable}
 use Rattle.geom.specs.declared.Rect.{Rect}
-use Rattle.geom.specs.declared.MaybeRect.{MaybeRect}
-use Rattle.geom.specs.declared.MaybeRect.TheVariants as rect
 use Rattle.geom.specs.Geometry.{of_size, placed}
 use Rattle.names.specs.Ids.{aid_x, aid_y, aid_width, aid_height}
 use Rattle.svgtree.specs.Values.{Header}
 use Rattle.svgtree.specs.Readers.{box_of, view_box_width_of, view_box_height_of, dpi_of, filter_font_size_of, filter_x_of, filter_y_of, filter_width_of, filter_height_of}
-use Rattle.units.specs.declared.Units.{Units}
-use Rattle.units.specs.declared.Units.TheVariants as units
+use Rattle.svgtree.specs.declared.Units.{Units}
+use Rattle.svgtree.specs.declared.Units.TheVariants as units
 use Rattle.units.specs.declared.State.{State}
 use Rattle.units.specs.Lengths.{percent, convert_units, resolve_number}
-use Rattle.region.specs.declared.FilterRegion.{FilterRegion}
-use Rattle.region.specs.declared.FilterRegion.TheVariants as region
 use Rattle.region.specs.declared.Frame.{Frame}
 
 -- "defaults objectBoundingBox, userSpaceOnUse"
@@ -51,24 +48,24 @@ abbrev pub filter_height_in : Header → Units → State → Float
 filter_height_in h filter_units state = resolve_number (filter_height_of h) aid_height filter_units state (filter_font_size_of h) (percent hundred_twenty)
 
 -- the rectangle of the four, in filterUnits, if it exists
-unfoldable pub filter_rect_in : Header → Units → State → MaybeRect
+unfoldable pub filter_rect_in : Header → Units → State → Option Rect
 filter_rect_in h filter_units state =
     of_size (filter_x_in h filter_units state) (filter_y_in h filter_units state) (filter_width_in h filter_units state) (filter_height_in h filter_units state)
 
 -- what placing it in the object's bounding box gave: "a placing makes no rectangle" is a refusal; the crate panics
-abbrev pub placed_in : MaybeRect → FilterRegion
-placed_in (rect.Is r) = region.Is r
-placed_in rect.No = region.Refused Unrepresentable
+abbrev pub placed_in : Option Rect → Result Rect Refusal
+placed_in (Some r) = Ok r
+placed_in None = Err Unrepresentable
 
 -- "no filter rectangle, or its box is missing": the box is needed where filterUnits is objectBoundingBox, and the region is then the rectangle
 -- placed in it
-abbrev pub region_in : Units → (filter_rect box : MaybeRect) → FilterRegion
-region_in filter_units rect.No box = region.Refused NoRegion
-region_in units.UserSpaceOnUse (rect.Is r) box = region.Is r
-region_in units.ObjectBoundingBox (rect.Is r) rect.No = region.Refused NoRegion
-region_in units.ObjectBoundingBox (rect.Is r) (rect.Is b) = placed_in (placed r b)
+abbrev pub region_in : Units → (filter_rect box : Option Rect) → Result Rect Refusal
+region_in filter_units None box = Err NoRegion
+region_in units.UserSpaceOnUse (Some r) box = Ok r
+region_in units.ObjectBoundingBox (Some r) None = Err NoRegion
+region_in units.ObjectBoundingBox (Some r) (Some b) = placed_in (placed r b)
 
-unfoldable pub filter_region_of : Header → FilterRegion
+unfoldable pub filter_region_of : Header → Result Rect Refusal
 filter_region_of h = region_in (filter_units_of h) (filter_rect_in h (filter_units_of h) (state_of h)) (box_of h)
 
 -- what the children are converted with, once there is a filter region

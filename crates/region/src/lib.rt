@@ -9,21 +9,14 @@ ghost use Rattle.units.specs.Lengths.{percent};
 ghost use Rattle.region.specs.Region.{minus_ten, hundred_twenty, state_of, filter_x_in, filter_y_in, filter_width_in, filter_height_in, filter_rect_in, placed_in, region_in, filter_region_of, frame_of};
 
 use answer::Refusal;
-use geom::{MaybeRect, Rect, Size};
+use geom::{Rect, Size};
 use names::aid;
 use svgtree::header::{
     bbox, dpi, filter_font_size, filter_height, filter_units, filter_width, filter_x, filter_y,
     primitive_units, view_box_height, view_box_width,
 };
-use svgtree::{Length, LengthUnit};
-use units::{State, Units, convert_units, resolve_number};
-
-// The filter region, or why there is none.
-#[derive(Clone, Copy)]
-pub enum FilterRegion {
-    Is(Rect),
-    Refused(Refusal),
-}
+use svgtree::{Length, LengthUnit, Units};
+use units::{State, convert_units, resolve_number};
 
 // What the children are converted with, beside the sheet that holds them: primitiveUnits, the filter region, the object's bounding box, the
 // view box and the resolution.
@@ -31,7 +24,7 @@ pub enum FilterRegion {
 pub struct Frame {
     pub units: Units,
     pub region: Rect,
-    pub bbox: MaybeRect,
+    pub bbox: Option<Rect>,
     pub state: State,
 }
 
@@ -119,46 +112,40 @@ pub fn resolve_height(s: &[u8], units: Units, state: State) -> f32
     )
 }
 
-fn filter_rect(s: &[u8], units: Units, state: State) -> MaybeRect
+#[tactic(auto, unfolding(crate::specs::Region::filter_rect_in))]
+fn filter_rect(s: &[u8], units: Units, state: State) -> Option<Rect>
     ensures { result ≡ filter_rect_in (header_of s.now) units state }
 {
-    let x = resolve_x(s, units, state);
-    let y = resolve_y(s, units, state);
-    let width = resolve_width(s, units, state);
-    let height = resolve_height(s, units, state);
-    Rect::from_xywh(x, y, width, height)
+    Rect::from_xywh(
+        resolve_x(s, units, state),
+        resolve_y(s, units, state),
+        resolve_width(s, units, state),
+        resolve_height(s, units, state),
+    )
 }
 
 // The filter region.
 
 // The crate panics where placing makes no rectangle; here that is an answer.
-fn place_in_bbox(rect: Rect, bbox: Rect) -> FilterRegion
+fn place_in_bbox(rect: Rect, bbox: Rect) -> Result<Rect, Refusal>
     ensures { result ≡ placed_in (placed rect bbox) }
 {
-    let placed = rect.bbox_transform(bbox);
-    match placed {
-        MaybeRect::Is(r) => FilterRegion::Is(r),
-        MaybeRect::No => FilterRegion::Refused(Refusal::Unrepresentable),
-    }
+    rect.bbox_transform(bbox).ok_or(Refusal::Unrepresentable)
 }
 
 // The region of a filter with this rectangle in these units. That there is a rectangle is asked first, and then for the bounding box.
-pub fn region_in(units: Units, rect: MaybeRect, bbox: MaybeRect) -> FilterRegion
+pub fn region_in(units: Units, rect: Option<Rect>, bbox: Option<Rect>) -> Result<Rect, Refusal>
     ensures { result ≡ region_in units rect bbox }
 {
-    let MaybeRect::Is(r) = rect else {
-        return FilterRegion::Refused(Refusal::NoRegion);
-    };
+    let rect = rect.ok_or(Refusal::NoRegion)?;
     match units {
-        Units::UserSpaceOnUse => FilterRegion::Is(r),
-        Units::ObjectBoundingBox => match bbox {
-            MaybeRect::Is(b) => place_in_bbox(r, b),
-            MaybeRect::No => FilterRegion::Refused(Refusal::NoRegion),
-        },
+        Units::UserSpaceOnUse => Ok(rect),
+        Units::ObjectBoundingBox => place_in_bbox(rect, bbox.ok_or(Refusal::NoRegion)?),
     }
 }
 
-pub fn filter_region(s: &[u8]) -> FilterRegion
+#[tactic(auto, unfolding(crate::specs::Region::filter_region_of))]
+pub fn filter_region(s: &[u8]) -> Result<Rect, Refusal>
     ensures { result ≡ filter_region_of (header_of s.now) }
 {
     let units = convert_units(filter_units(s), Units::ObjectBoundingBox);
@@ -170,9 +157,8 @@ pub fn filter_region(s: &[u8]) -> FilterRegion
 pub fn frame_of(s: &[u8], region: Rect) -> Frame
     ensures { result ≡ frame_of (header_of s.now) region }
 {
-    let units = convert_units(primitive_units(s), Units::UserSpaceOnUse);
     Frame {
-        units,
+        units: convert_units(primitive_units(s), Units::UserSpaceOnUse),
         region,
         bbox: bbox(s),
         state: state_of(s),

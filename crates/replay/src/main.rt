@@ -5,152 +5,98 @@
 // f64's bits as its input, and the f32's as its number.
 #![tactic(auto)]
 
-ghost use Rattle.std.specs.Prelude.{◌≤◌, ◌<◌};
+ghost use Rattle.std.specs.Prelude.{◌≡◌, ◌+◌, ◌-◌, ◌^◌, ◌≤◌, ◌<◌};
 
-use answer::Answer;
-use bits::{byte, get32, get64, wide32};
-use input::read_full;
+use bits::{get32, get64};
+use input::{ReadError, UNWRITTEN, is_unwritten, read_head, read_part};
 use std::io::Read;
 use std::{fs, io};
 use zatongae::{zatongae_convert, zatongae_convert_function, zatongae_narrow};
 
-fn fill(s: &mut [u8]) {
-    for x in s.iter_mut() {
-        *x = 170;
-    }
+#[derive(Clone, Copy)]
+enum Call {
+    Sheet,
+    Record,
+    Narrowing,
 }
 
-// Whether s is still as `fill` left it, from a place on.
-fn filled_from(s: &[u8], from: usize) -> bool {
-    s.iter().skip(from).all(|x| *x == 170)
-}
+impl TryFrom<u32> for Call {
+    type Error = ReadError;
 
-// Whether the first n bytes are the same.
-fn same(a: &[u8], b: &[u8], n: usize) -> bool {
-    for i in 0..n {
-        if byte(a, i) != byte(b, i) {
-            return false;
+    fn try_from(number: u32) -> Result<Self, ReadError> {
+        match number {
+            0 => Ok(Call::Sheet),
+            1 => Ok(Call::Record),
+            2 => Ok(Call::Narrowing),
+            _ => Err(ReadError::Broken),
         }
     }
-    true
 }
 
-// The call 0, or the call 1.
-fn convert(call: u32, input: &[u8], out: &mut [u8]) -> Answer {
-    if call == 0 {
-        return zatongae_convert(input, out);
-    }
-    zatongae_convert_function(input, out)
+#[derive(Drop)]
+struct Buffers {
+    // one byte more than a sheet can have, so that a longer one can be replayed
+    input: [u8; 65537],
+    out: [u8; 65536],
+    want: [u8; 65536],
 }
 
-// Number, length, the bytes written, and the bytes not written.
-fn converts(
-    call: u32,
-    input: &[u8],
-    out: &mut [u8],
-    want: &[u8],
+#[derive(Drop)]
+struct Case<'a> {
+    call: Call,
+    input: &'a [u8],
+    out: &'a mut [u8],
     number: u32,
-    length: usize,
-) -> bool {
-    fill(out);
-    let done = convert(call, input, out);
-    if done.number != number {
-        return false;
-    }
-    if done.length != length {
-        return false;
-    }
-    if !same(out, want, length) {
-        return false;
-    }
-    filled_from(out, length)
+    want: &'a [u8],
 }
 
-fn narrows(input: &[u8], number: u32) -> bool {
-    zatongae_narrow(get64(input, 0)) == number
+impl Buffers {
+    // Reads the next case, or gives None at the end of the file.
+    fn next_case(&mut self, file: &mut impl Read) -> Result<Option<Case<'_>>, ReadError> {
+        let Some(head) = read_head::<_, 20>(file)? else {
+            return Ok(None);
+        };
+        let Buffers { input, out, want } = self;
+        let call = Call::try_from(get32(&head, 0))?;
+        let input = read_part(file, input, get32(&head, 4) as usize)?;
+        let want = read_part(file, want, get32(&head, 16) as usize)?;
+        // narrowing writes no output
+        let room = match call {
+            Call::Narrowing => 0,
+            _ => get32(&head, 8) as usize,
+        };
+        let out = out.get_mut(..room).ok_or(ReadError::Broken)?;
+        let number = get32(&head, 12);
+        Ok(Some(Case {
+            call,
+            input,
+            out,
+            number,
+            want,
+        }))
+    }
 }
 
-fn read_part(file: &mut impl Read, buf: &mut [u8], n: usize) -> io::Result<bool> {
-    if n > buf.len() {
-        return Ok(false);
+impl Case<'_> {
+    // Number, length, the bytes written, and the bytes not written.
+    fn agrees(self) -> bool {
+        let Case {
+            call,
+            input,
+            out,
+            number,
+            want,
+        } = self;
+        out.fill(UNWRITTEN);
+        let answer = match call {
+            Call::Sheet => zatongae_convert(input, out),
+            Call::Record => zatongae_convert_function(input, out),
+            Call::Narrowing => return zatongae_narrow(get64(input, 0)) == number,
+        };
+        answer.number == number
+            && answer.length == want.len()
+            && out.strip_prefix(want).is_some_and(is_unwritten)
     }
-    Ok(read_full(file, &mut buf[0..n])? == n)
-}
-
-// What became of a case is a number, so that the loop over the cases has one path: twice the call, and 1 more for a difference.
-fn code_of(call: u32, agrees: bool) -> u32
-    requires { call < 3 }
-{
-    if agrees { 2 * call } else { 2 * call + 1 }
-}
-
-// The file's end, and a case that is cut off or too long for the buffers.
-const END: u32 = 6;
-
-const BROKEN: u32 = 7;
-
-fn run_case(
-    call: u32,
-    sheet: &[u8],
-    n: usize,
-    out: &mut [u8],
-    room: usize,
-    want: &[u8],
-    number: u32,
-    length: usize,
-) -> u32
-    requires { call < 3 }
-{
-    if n > sheet.len() {
-        return BROKEN;
-    }
-    if call == 2 {
-        return code_of(call, narrows(&sheet[0..n], number));
-    }
-    if room > out.len() {
-        return BROKEN;
-    }
-    code_of(
-        call,
-        converts(call, &sheet[0..n], &mut out[0..room], want, number, length),
-    )
-}
-
-fn step(
-    file: &mut impl Read,
-    sheet: &mut [u8],
-    out: &mut [u8],
-    want: &mut [u8],
-) -> io::Result<u32> {
-    let mut head = [0u8; 20];
-    let k = read_full(file, &mut head)?;
-    if k == 0 {
-        return Ok(END);
-    }
-    if k < 20 {
-        return Ok(BROKEN);
-    }
-    let call = get32(&head, 0);
-    let n = wide32(get32(&head, 4));
-    let room = wide32(get32(&head, 8));
-    let number = get32(&head, 12);
-    let length = wide32(get32(&head, 16));
-    if call > 2 {
-        return Ok(BROKEN);
-    }
-    if !read_part(file, sheet, n)? {
-        return Ok(BROKEN);
-    }
-    if !read_part(file, want, length)? {
-        return Ok(BROKEN);
-    }
-    Ok(run_case(call, sheet, n, out, room, want, number, length))
-}
-
-fn one_if(holds: bool) -> u32
-    ensures { result ≤ 1 }
-{
-    if holds { 1 } else { 0 }
 }
 
 #[derive(Clone, Copy)]
@@ -159,69 +105,66 @@ struct Tally {
     records: u32,
     narrowed: u32,
     differences: u32,
-    whole: bool,
+    ghost among_cases: { differences ≤ sheets + records + narrowed },
+}
+
+impl Tally {
+    fn count(&mut self, call: Call, agrees: bool)
+        requires { self.old.sheets + self.old.records + self.old.narrowed < 2 ^ 32 - 1 }
+        ensures { self.new.sheets + self.new.records + self.new.narrowed ≡ self.old.sheets + self.old.records + self.old.narrowed + 1 }
+    {
+        match call {
+            Call::Sheet => self.sheets += 1,
+            Call::Record => self.records += 1,
+            Call::Narrowing => self.narrowed += 1,
+        }
+        self.differences += u32::from(!agrees);
+    }
 }
 
 // The loop has a last turn, since nothing says that a file ends.
-fn run(
-    file: &mut impl Read,
-    sheet: &mut [u8],
-    out: &mut [u8],
-    want: &mut [u8],
-) -> io::Result<Tally> {
-    let mut sheets: u32 = 0;
-    let mut records: u32 = 0;
-    let mut narrowed: u32 = 0;
-    let mut differences: u32 = 0;
+fn run(file: &mut impl Read, buffers: &mut Buffers) -> io::Result<(Tally, bool)> {
+    let mut tally = Tally {
+        sheets: 0,
+        records: 0,
+        narrowed: 0,
+        differences: 0,
+    };
     for _ in 0..4_000_000_000u32 {
-        let code = step(file, sheet, out, want)?;
-        if code > 5 {
-            return Ok(Tally {
-                sheets,
-                records,
-                narrowed,
-                differences,
-                whole: code == END,
-            });
-        }
-        sheets += one_if(code < 2);
-        records += one_if(code / 2 == 1);
-        narrowed += one_if(code > 3);
-        differences += one_if(code % 2 == 1);
+        let case = match buffers.next_case(file) {
+            Ok(Some(case)) => case,
+            Ok(None) => return Ok((tally, true)),
+            Err(ReadError::Broken) => break,
+            Err(ReadError::Io(e)) => return Err(e),
+        };
+        let call = case.call;
+        tally.count(call, case.agrees());
     }
-    Ok(Tally {
+    Ok((tally, false))
+}
+
+fn report(rt: &impl Print, tally: Tally, is_whole: bool) -> io::Result<()> {
+    let Tally {
         sheets,
         records,
         narrowed,
         differences,
-        whole: false,
-    })
-}
-
-fn print_count(rt: &impl Print, n: u32, what: &str) -> io::Result<()> {
-    print!(rt; "{n}{what}")
-}
-
-fn report(rt: &impl Print, t: Tally) -> io::Result<()> {
-    print_count(rt, t.sheets, " sheets, ")?;
-    print_count(rt, t.records, " function records, ")?;
-    print_count(rt, t.narrowed, " numbers narrowed, ")?;
-    print_count(rt, t.differences, " differences\n")?;
-    if !t.whole {
+    } = tally;
+    print!(rt; "{sheets} sheets, {records} function records, ")?;
+    println!(rt; "{narrowed} numbers narrowed, {differences} differences")?;
+    if !is_whole {
         println!(rt; "the file is broken off")?;
     }
     Ok(())
 }
 
-fn replay(rt: &impl Print, file: &mut impl Read) -> io::Result<()> {
-    // one byte more than a sheet can have, so that a longer one can be replayed
-    let mut sheet = [0u8; 65537];
-    let mut out = [0u8; 65536];
-    let mut want = [0u8; 65536];
-    report(rt, run(file, &mut sheet, &mut out, &mut want)?)
-}
-
 fn main(rt: HostRuntime) -> io::Result<()> {
     let mut file = fs::open(&rt, "cases")?;
-    replay(&rt, &mut file)
+    let mut buffers = Buffers {
+        input: [0; 65537],
+        out: [0; 65536],
+        want: [0; 65536],
+    };
+    let (tally, is_whole) = run(&mut file, &mut buffers)?;
+    report(&rt, tally, is_whole)
 }

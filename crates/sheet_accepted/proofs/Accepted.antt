@@ -1,4 +1,5 @@
 -- The nodes of an accepted sheet are accepted nodes, and so are the nodes behind one of them and its children. Assumes nothing.
+use Rattle.std.specs.Prelude.{Err, Ok}
 use Prim.Native.Nat.{ℕ, zero, suc, ◌+◌, ◌≤◌, ◌<◌}
 use native.Mathlib.Nat.{add-zero}
 use native.Mathlib.Omega.{arith}
@@ -9,7 +10,6 @@ use lib.Dec.{T, ltb, eqb}
 use lib.ListN.{length, get_or}
 use lib.Ieee.Fits.{and_l, and_r}
 use borrow.Author.Tests.{ltb-false}
-use Rattle.answer.specs.declared.Checked.TheVariants as checked
 use Rattle.answer.specs.declared.Refusal.TheVariants.{TooLarge, Malformed, BadNumber, Image, OutsideGrammar, OutsideLimits}
 use Rattle.num.specs.Numbers.{Each}
 use Rattle.sheet_fields.specs.Fields.{header_pairs}
@@ -37,19 +37,19 @@ pub record Passed (s : List ℕ) : Type 0 where
   pub limits : T (limits_ok s)
   pub numbers : T (numbers_ok (sheet_of s))
 
-pub passed : (s : List ℕ) → first_refusal s ≡ checked.Passed → Passed s
+pub passed : (s : List ℕ) → first_refusal s ≡ (Ok (tt {0})) → Passed s
 unfolding first_refusal
 passed s h =
     go (ltb (length s) header_pairs) (too_large s) (layout_ok s) (grammar_ok s) (limits_ok s) (numbers_ok (sheet_of s)) (no_image (sheet_of s)) refl refl refl refl refl h
   where
     go : (a b c g l d e : Bool) → too_large s ≡ b → layout_ok s ≡ c → grammar_ok s ≡ g → limits_ok s ≡ l → numbers_ok (sheet_of s) ≡ d
-        → cond a (checked.Refused Malformed)
-        (cond b (checked.Refused TooLarge)
-        (cond (not c) (checked.Refused Malformed)
-        (cond (not g) (checked.Refused OutsideGrammar)
-        (cond (not l) (checked.Refused OutsideLimits)
-        (cond (not d) (checked.Refused BadNumber)
-        (cond (not e) (checked.Refused Image) checked.Passed)))))) ≡ checked.Passed → Passed s
+        → cond a (Err Malformed)
+        (cond b (Err TooLarge)
+        (cond (not c) (Err Malformed)
+        (cond (not g) (Err OutsideGrammar)
+        (cond (not l) (Err OutsideLimits)
+        (cond (not d) (Err BadNumber)
+        (cond (not e) (Err Image) (Ok (tt {0})))))))) ≡ (Ok (tt {0})) → Passed s
     go true b c g l d e p q u v r h = let z : ◌≡◌ {A = ℕ} 0 1 = cc in absurd (omega arith)
     go false true c g l d e p q u v r h = let z : ◌≡◌ {A = ℕ} 0 1 = cc in absurd (omega arith)
     go false false false g l d e p q u v r h = let z : ◌≡◌ {A = ℕ} 0 1 = cc in absurd (omega arith)
@@ -63,7 +63,7 @@ neither true b e = let z : ◌≡◌ {A = ℕ} 0 1 = cc in absurd (omega arith)
 neither false b e = (refl, e)
 
 -- "sheet over 65,536 bytes, or node count over 512" is refused
-module _ (s : List ℕ) (h : first_refusal s ≡ checked.Passed) where
+module _ (s : List ℕ) (h : first_refusal s ≡ (Ok (tt {0}))) where
   pub short_sheet : length s ≤ 65536
   unfolding too_large
   short_sheet = ltb-false 65536 (length s) (neither (ltb 65536 (length s)) (ltb 512 (count_of s)) (passed s h).small).0
@@ -101,7 +101,7 @@ module _ (s : List ℕ) (bytes : (i : ℕ) → get_or s i 0 < 256) where
             (and_r (node_numbers_ok (node_at s i)) nodes k),
       )
 
-  pub accepted_nodes : first_refusal s ≡ checked.Passed → AcceptedNodes (sheet_of s).nodes
+  pub accepted_nodes : first_refusal s ≡ (Ok (tt {0})) → AcceptedNodes (sheet_of s).nodes
   unfolding sheet_of
   accepted_nodes h =
       let p = passed s h in

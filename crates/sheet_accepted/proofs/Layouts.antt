@@ -1,9 +1,9 @@
 -- The layout of sheets, and the tests of typed lists, bound what each value is. Assumes nothing.
+use Rattle.std.specs.Prelude.{None, Option, Some}
 use Prim.Native.Nat.{ℕ, zero, suc, ◌+◌, ◌/◌, ◌≤◌, ◌<◌, min}
 use native.Mathlib.Omega.{arith}
 use mathlib.Core.Path.{◌≡◌, refl, sym, ap, subst}
 use mathlib.Core.List.{List, [], ◌∷◌, map}
-use mathlib.Core.Option.{Option, none, some}
 use lib.Dec.{T, eqb}
 use lib.ListN.{length, length-map, get_or}
 use lib.Ieee.{Float, binary32, fits}
@@ -46,8 +46,8 @@ singles_length s at (suc n) = ap suc (singles_length s (at + size_number) n)
 -- the numbers of a typed list are f32
 item_value_fits : (o : Option TypedItem) → T (fits binary32 (item_value_in o))
 unfolding item_value_in item_value
-item_value_fits none = of_bits-fits binary32 0
-item_value_fits (some i) = choose (λ (x : Float). T (fits binary32 x)) (in_limits i) (item_value i) plus_zero (narrowed_fits (nearest_double i)) (of_bits-fits binary32 0)
+item_value_fits None = of_bits-fits binary32 0
+item_value_fits (Some i) = choose (λ (x : Float). T (fits binary32 x)) (in_limits i) (item_value i) plus_zero (narrowed_fits (nearest_double i)) (of_bits-fits binary32 0)
 
 words_fit : (ws : List (List ℕ)) → T (all (fits binary32) (map word_value ws))
 unfolding all

@@ -1,8 +1,8 @@
 -- Refusal 3 turns every sheet away that has a number which is not finite, as given or narrowed; so each is read as it is given. Assumes nothing.
+use Rattle.std.specs.Prelude.{None, Option, Some}
 use mathlib.Core.Path.{◌≡◌, refl}
 use mathlib.Core.Bool.{Bool, not, ◌&&◌, ◌||◌}
 use mathlib.Core.List.{List, [], ◌∷◌, map}
-use mathlib.Core.Option.{Option, none, some}
 use lib.Dec.{T, eqb}
 use lib.Ieee.{Float, lt, le}
 use lib.Ieee.Scale.{finite}
@@ -49,8 +49,8 @@ view_box_given x h = finite_given x (and_r (lt zero_f32 x) (finite x) (and_l (lt
 -- ---- a value, and a node
 
 try_given : (o : Option Float) → T (try_number_ok o) → GivenTry o
-try_given none h = tt
-try_given (some x) h = double_given x h
+try_given None h = tt
+try_given (Some x) h = double_given x h
 
 singles_given : (xs : List Float) → T (all finite xs) → map or_zero xs ≡ xs
 unfolding all
@@ -91,8 +91,8 @@ node_given n h =
 
 box_given : (o : Option Bounds) → T (bounds_ok o) → GivenBox o
 unfolding bounds_ok
-box_given none h = tt
-box_given (some b) h =
+box_given None h = tt
+box_given (Some b) h =
     let x = finite b.x in
     let y = finite b.y in
     let w = finite b.width in

@@ -2,8 +2,7 @@
 -- of a typed list that is outside the grammar or the limits; a text is cut at 255 bytes, a byte past the end reads as 0, and a node's offset is read modulo
 -- 65,536. Of a sheet past refusals 1 to 4, 10 and 11 none of these substitutes is used.
 -- Definitions only.
-use Rattle.std.specs.Prelude.{ℕ, ◌*◌, ◌<◌, ◌≡◌, List, [], ◌++◌, map, T, length, Float}
-use Rattle.std.proofs.Math.Option.{Option, none, some}
+use Rattle.std.specs.Prelude.{ℕ, ◌*◌, ◌<◌, ◌≡◌, List, [], ◌++◌, map, T, length, Float, None, Option, Some}
 use Rattle.std.specs.Float.Ieee.Scale.{finite}
 use Rattle.bits.specs.Bytes.{bytes_from}
 use Rattle.num.specs.Narrowed.{narrowed, or_zero, as_f32}
@@ -24,8 +23,8 @@ abbrev pub GivenDouble : Float → Type 0
 GivenDouble x = T (finite x) × (as_f32 x ≡ narrowed x)
 
 abbrev pub GivenTry : Option Float → Type 0
-GivenTry none = Unit {0}
-GivenTry (some x) = GivenDouble x
+GivenTry None = Unit {0}
+GivenTry (Some x) = GivenDouble x
 
 -- the numbers of an attribute, or of a length of the header
 abbrev pub GivenValue : Value → Type 0
@@ -45,8 +44,8 @@ pub record GivenNode (n : Node) : Type 0 where
   pub attributes : Each GivenAttribute n.attributes
 
 abbrev pub GivenBox : Option Bounds → Type 0
-GivenBox none = Unit {0}
-GivenBox (some b) = GivenSingle b.x × GivenSingle b.y × GivenSingle b.width × GivenSingle b.height
+GivenBox None = Unit {0}
+GivenBox (Some b) = GivenSingle b.x × GivenSingle b.y × GivenSingle b.width × GivenSingle b.height
 
 pub record GivenHeader (h : Header) : Type 0 where
   pub box : GivenBox h.box

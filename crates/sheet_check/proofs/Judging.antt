@@ -1,11 +1,12 @@
 -- Laws on faults: along attributes and nodes, and that the worst fault of all says which of 10, 11 and 3 comes first. Assumes nothing.
-use Prim.Native.Nat.{ℕ, zero, suc, ◌+◌, ◌-◌, ◌<◌}
+use Prim.Native.Nat.{ℕ, zero, suc, ◌+◌, ◌-◌, ◌<◌, ◌≤◌}
 use native.Mathlib.Omega.{arith}
 use mathlib.Core.Path.{◌≡◌, refl, ap, ap₂, sym, ◌∙◌}
 use mathlib.Core.List.{List, [], ◌∷◌, ◌++◌, map}
 use mathlib.Core.Bool.{Bool, true, false, not, ◌&&◌, cond, or-true, and-false, and-true}
 use lib.Dec.{eqb}
 use borrow.Author.Tests.{eqb-true}
+use Rattle.std.specs.Prelude.{Option, Some, None}
 use Rattle.bits.specs.Bytes.{bytes_from}
 use Rattle.num.specs.Sign.{positive}
 use Rattle.sheet_fields.specs.Fields.{kind_typed}
@@ -16,55 +17,57 @@ use Rattle.field_tests.specs.Tests.{all}
 use Rattle.sheet_check.specs.Numbers.{value_numbers_ok, opacity_ok, attribute_numbers_ok, node_numbers_ok, header_numbers_ok, numbers_ok}
 use Rattle.sheet_check.specs.Texts.{texts_in, texts_from, typed_texts, outcome_in_grammar, outcome_in_limits, text_in_grammar, text_in_limits, grammar_ok, limits_ok}
 use Rattle.sheet_check.specs.declared.faults.Fault.{Fault}
-use Rattle.sheet_check.specs.declared.faults.Fault.TheVariants.{Nothing, Number, Limits, Grammar}
+use Rattle.sheet_check.specs.declared.faults.Fault.TheVariants.{Number, Limits, Grammar}
 use Rattle.sheet_check.specs.Means.{text_fault, number_fault, worse_of, worst, attribute_fault, node_fault, node_faults}
 use Rattle.sheet_check.proofs.Numbering.{typed_finite}
 
 -- ---- the worse of two faults
 
-pub worse_none : (a : Fault) → worse_of a Nothing ≡ a
-worse_none Nothing = refl
-worse_none Number = refl
-worse_none Limits = refl
-worse_none Grammar = refl
+pub worse_none : (a : Option Fault) → worse_of a None ≡ a
+worse_none None = refl
+worse_none (Some Number) = refl
+worse_none (Some Limits) = refl
+worse_none (Some Grammar) = refl
 
-pub worse_assoc : (a b c : Fault) → worse_of (worse_of a b) c ≡ worse_of a (worse_of b c)
-worse_assoc Nothing b c = refl
-worse_assoc Number Nothing c = refl
-worse_assoc Number Number Nothing = refl
-worse_assoc Number Number Number = refl
-worse_assoc Number Number Limits = refl
-worse_assoc Number Number Grammar = refl
-worse_assoc Number Limits Nothing = refl
-worse_assoc Number Limits Number = refl
-worse_assoc Number Limits Limits = refl
-worse_assoc Number Limits Grammar = refl
-worse_assoc Number Grammar c = refl
-worse_assoc Limits Nothing c = refl
-worse_assoc Limits Number Nothing = refl
-worse_assoc Limits Number Number = refl
-worse_assoc Limits Number Limits = refl
-worse_assoc Limits Number Grammar = refl
-worse_assoc Limits Limits Nothing = refl
-worse_assoc Limits Limits Number = refl
-worse_assoc Limits Limits Limits = refl
-worse_assoc Limits Limits Grammar = refl
-worse_assoc Limits Grammar c = refl
-worse_assoc Grammar b c = refl
+pub worse_assoc : (a b c : Option Fault) → worse_of (worse_of a b) c ≡ worse_of a (worse_of b c)
+worse_assoc None b c = refl
+worse_assoc (Some Number) None c = refl
+worse_assoc (Some Number) (Some Number) None = refl
+worse_assoc (Some Number) (Some Number) (Some Number) = refl
+worse_assoc (Some Number) (Some Number) (Some Limits) = refl
+worse_assoc (Some Number) (Some Number) (Some Grammar) = refl
+worse_assoc (Some Number) (Some Limits) None = refl
+worse_assoc (Some Number) (Some Limits) (Some Number) = refl
+worse_assoc (Some Number) (Some Limits) (Some Limits) = refl
+worse_assoc (Some Number) (Some Limits) (Some Grammar) = refl
+worse_assoc (Some Number) (Some Grammar) c = refl
+worse_assoc (Some Limits) None c = refl
+worse_assoc (Some Limits) (Some Number) None = refl
+worse_assoc (Some Limits) (Some Number) (Some Number) = refl
+worse_assoc (Some Limits) (Some Number) (Some Limits) = refl
+worse_assoc (Some Limits) (Some Number) (Some Grammar) = refl
+worse_assoc (Some Limits) (Some Limits) None = refl
+worse_assoc (Some Limits) (Some Limits) (Some Number) = refl
+worse_assoc (Some Limits) (Some Limits) (Some Limits) = refl
+worse_assoc (Some Limits) (Some Limits) (Some Grammar) = refl
+worse_assoc (Some Limits) (Some Grammar) c = refl
+worse_assoc (Some Grammar) b c = refl
 
--- ---- n attributes from a place on, and the nodes from number i on, of n
+-- ---- n attributes from a place on, behind the first i, and the nodes from number i on, of n
 
-module _ (s : List ℕ) (at n : ℕ) where
-  pub attributes_step : 0 < n
-      → worst (map (attribute_fault s) (places_from s at n)) ≡ worse_of (attribute_fault s at) (worst (map (attribute_fault s) (places_from s (next_place s at) (n - 1))))
+module _ (s : List ℕ) (at n i : ℕ) where
+  pub attributes_step : i < n
+      → worst (map (attribute_fault s) (places_from s at (n - i))) ≡ worse_of (attribute_fault s at) (worst (map (attribute_fault s) (places_from s (next_place s at) (n - (i + 1)))))
   unfolding places_from worst
   attributes_step h =
-      let e : n ≡ suc (n - 1) = omega arith in
+      let e : n - i ≡ suc (n - (i + 1)) = omega arith in
       ap (λ (k : ℕ). worst (map (attribute_fault s) (places_from s at k))) e
 
-  pub attributes_none : n ≡ 0 → worst (map (attribute_fault s) (places_from s at n)) ≡ Nothing
+  pub attributes_none : n ≤ i → worst (map (attribute_fault s) (places_from s at (n - i))) ≡ None
   unfolding places_from worst
-  attributes_none h = ap (λ (k : ℕ). worst (map (attribute_fault s) (places_from s at k))) h
+  attributes_none h =
+      let e : n - i ≡ 0 = omega arith in
+      ap (λ (k : ℕ). worst (map (attribute_fault s) (places_from s at k))) e
 
 module _ (s : List ℕ) (i n : ℕ) where
   pub nodes_step : i < n → worst (node_faults s i (n - i)) ≡ worse_of (node_fault s (offset_of s i)) (worst (node_faults s (i + 1) (n - (i + 1))))
@@ -73,14 +76,16 @@ module _ (s : List ℕ) (i n : ℕ) where
       let e : n - i ≡ suc (n - (i + 1)) = omega arith in
       ap (λ (k : ℕ). worst (node_faults s i k)) e
 
-  pub nodes_none : n - i ≡ 0 → worst (node_faults s i (n - i)) ≡ Nothing
+  pub nodes_none : n ≤ i → worst (node_faults s i (n - i)) ≡ None
   unfolding node_faults worst
-  nodes_none h = ap (λ (k : ℕ). worst (node_faults s i k)) h
+  nodes_none h =
+      let e : n - i ≡ 0 = omega arith in
+      ap (λ (k : ℕ). worst (node_faults s i k)) e
 
 -- ---- a fault, by the three tests in their order
 
-abbrev judged : (grammar limits number : Bool) → Fault
-judged grammar limits number = cond (not grammar) Grammar (cond (not limits) Limits (cond (not number) Number Nothing))
+abbrev judged : (grammar limits number : Bool) → Option Fault
+judged grammar limits number = cond (not grammar) (Some Grammar) (cond (not limits) (Some Limits) (cond (not number) (Some Number) None))
 
 -- the worse of two faults is that of the tests of both
 judged_both : (g l n h m k : Bool) → worse_of (judged g l n) (judged h m k) ≡ judged (g && h) (l && m) (n && k)
@@ -169,32 +174,32 @@ nodes_judged s i (suc n) =
 
 -- ---- the worst fault of all nodes, and the tests of the sheet
 
-is_grammar : (g l n : Bool) → Grammar ≡ judged g l n → g ≡ false
+is_grammar : (g l n : Bool) → Some Grammar ≡ judged g l n → g ≡ false
 is_grammar false l n e = refl
 is_grammar true false n e = cc
 is_grammar true true false e = cc
 is_grammar true true true e = cc
 
-is_limits : (g l n : Bool) → Limits ≡ judged g l n → (g ≡ true) × (l ≡ false)
+is_limits : (g l n : Bool) → Some Limits ≡ judged g l n → (g ≡ true) × (l ≡ false)
 is_limits false l n e = (cc, cc)
 is_limits true false n e = (refl, refl)
 is_limits true true false e = (refl, cc)
 is_limits true true true e = (refl, cc)
 
-is_number : (g l n : Bool) → Number ≡ judged g l n → (g ≡ true) × (l ≡ true) × (n ≡ false)
+is_number : (g l n : Bool) → Some Number ≡ judged g l n → (g ≡ true) × (l ≡ true) × (n ≡ false)
 is_number false l n e = (cc, cc, cc)
 is_number true false n e = (refl, cc, cc)
 is_number true true false e = (refl, refl, refl)
 is_number true true true e = (refl, refl, cc)
 
-is_nothing : (g l n : Bool) → Nothing ≡ judged g l n → (g ≡ true) × (l ≡ true) × (n ≡ true)
+is_nothing : (g l n : Bool) → None ≡ judged g l n → (g ≡ true) × (l ≡ true) × (n ≡ true)
 is_nothing false l n e = (cc, cc, cc)
 is_nothing true false n e = (refl, cc, cc)
 is_nothing true true false e = (refl, refl, cc)
 is_nothing true true true e = (refl, refl, refl)
 
 module _ (s : List ℕ) where
-  abbrev faults : Fault
+  abbrev faults : Option Fault
   faults = worst (node_faults s 0 (count_of s))
 
   abbrev numbers : Bool
@@ -203,22 +208,31 @@ module _ (s : List ℕ) where
   by_tests : faults ≡ judged (all text_in_grammar (typed_texts s)) (all text_in_limits (typed_texts s)) numbers
   by_tests = nodes_judged s 0 (count_of s)
 
-  pub grammar_broken : Grammar ≡ faults → grammar_ok s ≡ false
+  pub grammar_broken : Some Grammar ≡ faults → grammar_ok s ≡ false
   unfolding grammar_ok
   grammar_broken e = is_grammar (all text_in_grammar (typed_texts s)) (all text_in_limits (typed_texts s)) numbers (e ∙ by_tests)
 
-  pub limits_broken : Limits ≡ faults → (grammar_ok s ≡ true) × (limits_ok s ≡ false)
+  pub limits_broken : Some Limits ≡ faults → (grammar_ok s ≡ true) × (limits_ok s ≡ false)
   unfolding grammar_ok limits_ok
   limits_broken e = is_limits (all text_in_grammar (typed_texts s)) (all text_in_limits (typed_texts s)) numbers (e ∙ by_tests)
 
-  pub number_broken : Number ≡ faults → (grammar_ok s ≡ true) × (limits_ok s ≡ true) × (numbers_ok (sheet_of s) ≡ false)
+  pub number_broken : Some Number ≡ faults → (grammar_ok s ≡ true) × (limits_ok s ≡ true) × (numbers_ok (sheet_of s) ≡ false)
   unfolding grammar_ok limits_ok numbers_ok sheet_of
   number_broken e =
       let h = is_number (all text_in_grammar (typed_texts s)) (all text_in_limits (typed_texts s)) numbers (e ∙ by_tests) in
       (h.0, h.1, rw h.2 (and-false (header_numbers_ok (sheet_of s).header)))
 
-  pub no_fault : Nothing ≡ faults → (grammar_ok s ≡ true) × (limits_ok s ≡ true) × (numbers_ok (sheet_of s) ≡ header_numbers_ok (sheet_of s).header)
+  pub no_fault : None ≡ faults → (grammar_ok s ≡ true) × (limits_ok s ≡ true) × (numbers_ok (sheet_of s) ≡ header_numbers_ok (sheet_of s).header)
   unfolding grammar_ok limits_ok numbers_ok sheet_of
   no_fault e =
       let h = is_nothing (all text_in_grammar (typed_texts s)) (all text_in_limits (typed_texts s)) numbers (e ∙ by_tests) in
       (h.0, h.1, rw h.2 (and-true (header_numbers_ok (sheet_of s).header)))
+
+-- the worst fault along attributes
+pub ruleset along_attributes = (attributes_step, attributes_none, worse_none, worse_assoc)
+
+-- and along nodes
+pub ruleset along_nodes = (nodes_step, nodes_none, worse_none, worse_assoc)
+
+-- what the worst fault says of the sheet
+pub ruleset judging = (grammar_broken, limits_broken, number_broken, no_fault)

@@ -2,6 +2,8 @@
 // number of the same name in specs/Fields.antt or specs/BoxFields.antt: the contracts of the functions that use it say so.
 #![tactic(auto)]
 
+pub mod kind;
+
 // The part before the nodes. Its offsets are from the start of the sheet.
 pub mod header {
     pub const FILTER_UNITS: usize = 0;
@@ -74,25 +76,6 @@ pub mod attribute {
     pub const VALUE: usize = 6;
 }
 
-// The kinds of an attribute's value.
-pub mod kind {
-    pub const UNREADABLE: u8 = 0;
-
-    pub const TEXT: u8 = 1;
-
-    pub const NUMBER: u8 = 2;
-
-    pub const NUMBERS: u8 = 3;
-
-    pub const LENGTH: u8 = 4;
-
-    pub const COLOR: u8 = 5;
-
-    pub const TRIES: u8 = 6;
-
-    pub const TYPED: u8 = 7;
-}
-
 // How many bytes a value has. Texts, lists of numbers and typed lists have at most so many bytes, numbers and bytes.
 pub mod size {
     pub const TEXT_MOST: u16 = 255;
@@ -124,7 +107,7 @@ pub mod tries {
     pub const THIRD: usize = 18;
 }
 
-// The space that filterUnits and primitiveUnits name.
+// The space that filterUnits and primitiveUnits name. Constants, since the enum is svgtree's `Units`, which has no absent one.
 pub mod space {
     pub const USER_SPACE_ON_USE: u8 = 0;
 
@@ -133,7 +116,7 @@ pub mod space {
     pub const ABSENT: u8 = 2;
 }
 
-// svgtypes' units of a length.
+// svgtypes' units of a length. Constants, since the enum is svgtree's `LengthUnit`, which has no absent one.
 pub mod unit {
     pub const EM: u8 = 1;
 

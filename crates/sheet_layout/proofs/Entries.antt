@@ -93,15 +93,21 @@ entries_looped s depth size node n =
     rw (rising_from_lem (map (λ e. e.id) l), same_test (node_attributes + t) size (attributes_place node + t) (node + size) (λ h. omega arith) (λ h. omega arith))
     (looped_is s depth (node + size) (attributes_place node) n 0)
 
-module _ (s : List ℕ) (depth end at n low : ℕ) where
-  pub looped_end : n ≡ 0 → looped s depth end at n low ≡ eqb at end
+-- behind the first i of n
+module _ (s : List ℕ) (depth end at n i low : ℕ) where
+  pub looped_end : n ≤ i → looped s depth end at (n - i) low ≡ eqb at end
   unfolding looped
-  looped_end h = ap (λ (k : ℕ). looped s depth end at k low) h
+  looped_end h =
+      let e : n - i ≡ 0 = omega arith in
+      ap (λ (k : ℕ). looped s depth end at k low) e
 
-  pub looped_step : 0 < n
-      → looped s depth end at n low
-      ≡ (leb low (attribute_id s at) && entry_ok depth (entry_at s at) && looped s depth end (next_place s at) (n - 1) (attribute_id s at + 1))
+  pub looped_step : i < n
+      → looped s depth end at (n - i) low
+      ≡ (leb low (attribute_id s at) && entry_ok depth (entry_at s at) && looped s depth end (next_place s at) (n - (i + 1)) (attribute_id s at + 1))
   unfolding looped
   looped_step h =
-      let e : n ≡ suc (n - 1) = omega arith in
+      let e : n - i ≡ suc (n - (i + 1)) = omega arith in
       ap (λ (k : ℕ). looped s depth end at k low) e
+
+-- the test of all attributes, a turn of it, and its end
+pub ruleset looping = (entries_looped, looped_step, looped_end)

@@ -8,6 +8,7 @@ use mathlib.Core.Bool.{◌&&◌}
 use lib.ListN.{get_or}
 use lib.Dec.{leb}
 use Rattle.bits.specs.Bytes.{bytes_from}
+use Rattle.bits.proofs.Runs.{length-bytes_from}
 use Rattle.sheet_fields.specs.Fields.{size_tries, marked_number, marked_number_size, tries_second, tries_third}
 use Rattle.sheet_layout.specs.Layout.{try_ok, tries_ok}
 
@@ -52,3 +53,6 @@ module _ (s : List ℕ) (at n : ℕ) where
         byte_in s at n tries_third (omega arith),
         add-zero at,
       )
+
+-- how many bytes a value has, and which
+pub ruleset value_bytes = (length-bytes_from, byte_in, tries_in_lem)

@@ -1,6 +1,6 @@
 -- What the code's four numbers of a child stand for. Definitions only.
+use Rattle.std.specs.Prelude.{Option}
 use Rattle.geom.specs.declared.Rect.{Rect}
-use Rattle.geom.specs.declared.MaybeRect.{MaybeRect}
 use Rattle.geom.specs.Geometry.{width_of, height_of}
 use Rattle.names.specs.Ids.{aid_x, aid_y, aid_width, aid_height}
 use Rattle.svgtree.specs.Values.{Node}
@@ -23,5 +23,5 @@ given_in_box g box =
     }
 
 -- their rectangle
-abbrev pub rect_of_given : (region : Rect) → Given → MaybeRect
+abbrev pub rect_of_given : (region : Rect) → Given → Option Rect
 rect_of_given region g = rect_within region g.x g.y g.width g.height

@@ -2,6 +2,6 @@
 use Prim.Native.Nat.{ℕ, ◌+◌, ◌*◌, ◌≤◌}
 use Rattle.sheet_fields.specs.Fields.{attribute_value}
 
--- at a place with so many attributes left, of n from `start` on
-abbrev pub Walked : (start n at left : ℕ) → Type 0
-Walked start n at left = at + left * (attribute_value + 65535) ≤ start + n * (attribute_value + 65535)
+-- at a place behind so many attributes from `start` on
+abbrev pub Walked : (start passed at : ℕ) → Type 0
+Walked start passed at = at ≤ start + passed * (attribute_value + 65535)

@@ -1,5 +1,5 @@
 -- The attributes x, y, width and height of a node, all four at once. Definitions only.
-use Rattle.std.specs.Prelude.{ℕ, ◌≡◌, cond, List, eqb}
+use Rattle.std.specs.Prelude.{ℕ, ◌≡◌, List, Option, Some, None}
 use Rattle.names.specs.Ids.{aid_x, aid_y, aid_width, aid_height}
 use Rattle.svgtree.specs.declared.sides.Places.{Places}
 use Rattle.svgtree.specs.declared.sides.Sides.{Sides}
@@ -7,9 +7,10 @@ use Rattle.svgtree.specs.Values.{Value, absent, Attribute, Node}
 use Rattle.svgtree.specs.Readers.{value_under, length_of}
 use Rattle.svgtree.specs.Parse.{attribute_at}
 
--- the value of the attribute that begins at a place; 0 is the place of none
-abbrev pub value_from : List ℕ → ℕ → Value
-value_from s at = cond (eqb at 0) absent (attribute_at s at).value
+-- the value of the attribute that begins at a place, if there is one
+abbrev pub value_from : List ℕ → Option ℕ → Value
+value_from s None = absent
+value_from s (Some at) = (attribute_at s at).value
 
 -- each place is that of the first attribute with its id
 pub record PlacesOf (s : List ℕ) (attributes : List Attribute) (r : Places) : Type 0 where

@@ -1,39 +1,43 @@
 // The header: its numbers, units and lengths.
+#![tactic(auto, unfolding(crate::specs::Parse::header_of, num::specs::Means::single_of))]
+
 ghost use Rattle.std.specs.Prelude.{◌≡◌, ◌<◌};
 ghost use Rattle.svgtree.specs.Readers.{length_in, box_of, view_box_width_of, view_box_height_of, dpi_of, filter_font_size_of, filter_x_of, filter_y_of, filter_width_of, filter_height_of};
 ghost use Rattle.svgtree.specs.Parse.{units_of, header_length, header_of};
 
 use crate::values::length_from;
-use crate::{MaybeLength, MaybeUnits};
+use crate::{Length, Units};
 use bits::{byte, get32};
-use geom::{MaybeRect, Rect};
+use geom::Rect;
 use num::single;
 use sheet_fields::{header, space, unit};
 
-fn units_of(b: u8) -> MaybeUnits
+// An Option, and no `TryFrom`: a byte that stands for no units says that they are absent, and no error could say more.
+#[tactic(auto, unfolding(crate::specs::Parse::units_of))]
+fn units_of(b: u8) -> Option<Units>
     ensures { result ≡ units_of b }
 {
     match b {
-        space::USER_SPACE_ON_USE => MaybeUnits::UserSpaceOnUse,
-        space::OBJECT_BOUNDING_BOX => MaybeUnits::ObjectBoundingBox,
-        _ => MaybeUnits::Absent,
+        space::USER_SPACE_ON_USE => Some(Units::UserSpaceOnUse),
+        space::OBJECT_BOUNDING_BOX => Some(Units::ObjectBoundingBox),
+        _ => None,
     }
 }
 
-pub fn filter_units(s: &[u8]) -> MaybeUnits
+pub fn filter_units(s: &[u8]) -> Option<Units>
     ensures { result ≡ (header_of s.now).filter_units }
 {
     units_of(byte(s, header::FILTER_UNITS))
 }
 
-pub fn primitive_units(s: &[u8]) -> MaybeUnits
+pub fn primitive_units(s: &[u8]) -> Option<Units>
     ensures { result ≡ (header_of s.now).primitive_units }
 {
     units_of(byte(s, header::PRIMITIVE_UNITS))
 }
 
 // The object's bounding box.
-pub fn bbox(s: &[u8]) -> MaybeRect
+pub fn bbox(s: &[u8]) -> Option<Rect>
     ensures { result ≡ box_of (header_of s.now) }
 {
     if byte(s, header::BOX_PRESENT) == 1 {
@@ -43,8 +47,10 @@ pub fn bbox(s: &[u8]) -> MaybeRect
         let height = single(get32(s, header::BOX_HEIGHT));
         return Rect::from_xywh(x, y, width, height);
     }
-    MaybeRect::No
+    None
 }
+
+// A name for each field: a function for all would take the field's place, and could not promise what stands there.
 
 pub fn view_box_width(s: &[u8]) -> f32
     ensures { result ≡ view_box_width_of (header_of s.now) }
@@ -70,35 +76,36 @@ pub fn filter_font_size(s: &[u8]) -> f32
     single(get32(s, header::FONT_SIZE))
 }
 
-fn header_length(s: &[u8], at: usize) -> MaybeLength
+#[tactic(auto, unfolding(crate::specs::Parse::header_length, crate::specs::Readers::length_in))]
+fn header_length(s: &[u8], at: usize) -> Option<Length>
     requires { at < 256 }
     ensures { result ≡ length_in (header_length s.now at) }
 {
     if byte(s, at) == unit::ABSENT {
-        return MaybeLength::No;
+        return None;
     }
-    MaybeLength::Is(length_from(s, at))
+    Some(length_from(s, at))
 }
 
-pub fn filter_x(s: &[u8]) -> MaybeLength
+pub fn filter_x(s: &[u8]) -> Option<Length>
     ensures { result ≡ filter_x_of (header_of s.now) }
 {
     header_length(s, header::X)
 }
 
-pub fn filter_y(s: &[u8]) -> MaybeLength
+pub fn filter_y(s: &[u8]) -> Option<Length>
     ensures { result ≡ filter_y_of (header_of s.now) }
 {
     header_length(s, header::Y)
 }
 
-pub fn filter_width(s: &[u8]) -> MaybeLength
+pub fn filter_width(s: &[u8]) -> Option<Length>
     ensures { result ≡ filter_width_of (header_of s.now) }
 {
     header_length(s, header::WIDTH)
 }
 
-pub fn filter_height(s: &[u8]) -> MaybeLength
+pub fn filter_height(s: &[u8]) -> Option<Length>
     ensures { result ≡ filter_height_of (header_of s.now) }
 {
     header_length(s, header::HEIGHT)

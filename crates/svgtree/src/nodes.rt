@@ -1,9 +1,11 @@
 // The nodes: how many there are, where each stands, and what stands before its attributes.
+#![tactic(auto, unfolding(crate::specs::Parse::node_from, num::specs::Means::single_of))]
+
 ghost use Rattle.std.specs.Prelude.{◌≡◌};
 ghost use Rattle.svgtree.specs.Readers.{font_size_of};
 ghost use Rattle.svgtree.specs.Parse.{node_from, count_of, pair_place, pair_offset, pair_length_at, offset_of};
 
-use bits::{byte, get16, get32, wide16};
+use bits::{byte, get16, get32};
 use num::single;
 use sheet_fields::{header, node, pair};
 
@@ -17,7 +19,7 @@ pub fn node_count(s: &[u8]) -> u16
 pub fn pair_place(i: u16) -> usize
     ensures { result ≡ pair_place i }
 {
-    header::PAIRS + pair::SIZE * wide16(i)
+    header::PAIRS + pair::SIZE * usize::from(i)
 }
 
 pub fn pair_offset(s: &[u8], i: u16) -> u32
@@ -41,17 +43,17 @@ pub(crate) fn offset_at(s: &[u8], i: u16) -> u16
 pub(crate) fn depth_at(s: &[u8], at: u16) -> u8
     ensures { result ≡ (node_from s.now at).depth }
 {
-    byte(s, wide16(at))
+    byte(s, usize::from(at))
 }
 
 pub(crate) fn tag_at(s: &[u8], at: u16) -> u8
     ensures { result ≡ (node_from s.now at).tag }
 {
-    byte(s, wide16(at) + node::TAG)
+    byte(s, usize::from(at) + node::TAG)
 }
 
 pub(crate) fn font_size_at(s: &[u8], at: u16) -> f32
     ensures { result ≡ font_size_of (node_from s.now at) }
 {
-    single(get32(s, wide16(at) + node::FONT_SIZE))
+    single(get32(s, usize::from(at) + node::FONT_SIZE))
 }

@@ -1,21 +1,32 @@
 // An attribute's value, read as one of a kind.
-ghost use Rattle.std.specs.Prelude.{◌≡◌, ◌^◌, ◌<◌, min};
-ghost use Rattle.std.proofs.Math.Option.{some};
-ghost use Rattle.bits.specs.Texts.{maybe_text_is};
-ghost use Rattle.sheet_fields.specs.Fields.{size_text_most};
-ghost use Rattle.svgtree.specs.Readers.{length_in, text_of, number_of, numbers_of, length_of, color_of, tries_of};
-ghost use Rattle.svgtree.specs.Parse.{unit_of, length_at, color_at, try_at, tried_at, node_from};
-ghost use Rattle.svgtree.specs.Means.{maybe_numbers_is, try_is, maybe_tries_is};
+#![tactic(auto, using(crate::proofs::ByKind::by_kind))]
 
-use crate::attributes::find;
-use crate::{
-    Color, Found, Length, LengthUnit, MaybeColor, MaybeLength, MaybeNumber, MaybeNumbers,
-    MaybeTries, Tries, Try,
-};
-use bits::{MaybeText, Text, byte, get32, get64, wide32};
+ghost use Rattle.std.specs.Prelude.{◌≡◌, List, ℕ, ◌^◌, ◌<◌, min, None, Option, Some};
+ghost use Rattle.sheet_fields.specs.Fields.{size_text_most};
+ghost use Rattle.svgtree.specs.Readers.{length_in};
+ghost use Rattle.svgtree.specs.Values.{Value, absent};
+ghost use Rattle.svgtree.specs.Parse.{unit_of, length_at, color_at, try_at, tried_at, value_at};
+ghost use Rattle.svgtree.specs.Means.{try_is, maybe_tries_is};
+ghost use Rattle.svgtree.specs.Attributes.{TextSays, NumberSays, NumbersSays, LengthSays, ColorSays, TriesSays, text_none, number_none, numbers_none, length_none, color_none, tries_none};
+
+use crate::{Color, Found, Length, LengthUnit, Tries};
+use bits::{Text, byte, get32, get64};
 use num::{double_narrowed, single};
-use number_list::{packed, typed};
-use sheet_fields::{kind, marked, size, tries, unit};
+use number_list::{Numbers, packed, typed};
+use sheet_fields::kind::ValueKind;
+use sheet_fields::{marked, size, tries, unit};
+
+// What an attribute is read as, by type: the source's `FromValue`.
+pub trait FromValue: Copy + Drop {
+    // what is read of a value, over the sheet's bytes
+    ghost says: { List ℕ → Option Self → Value → Type 0 };
+
+    fn parse(bytes: &[u8], found: Found) -> Option<Self>
+        ensures { says bytes.now result (value_at bytes.now found.kind found.at found.len) };
+
+    // an attribute that is absent reads as none
+    ghost none_said: { (s : List ℕ) → says s None absent };
+}
 
 // A text's length, to 255 bytes.
 fn cut(n: u16) -> u8
@@ -28,97 +39,90 @@ fn cut(n: u16) -> u8
     }
 }
 
-pub(crate) fn find_text(s: &[u8], at: u16, id: u16) -> MaybeText
-    ensures { maybe_text_is s.now result ≡ text_of (node_from s.now at) id }
-{
-    let f = find(s, at, id);
-    match f {
-        Found::At { at, len, kind } => {
-            if kind == kind::TEXT {
-                MaybeText::Is(Text { at, len: cut(len) })
-            } else {
-                MaybeText::No
-            }
+impl FromValue for Text {
+    ghost says = { TextSays };
+
+    ghost none_said = { λ s. text_none s };
+
+    fn parse(bytes: &[u8], found: Found) -> Option<Self> {
+        if found.kind != ValueKind::Text as u8 {
+            return None;
         }
-        Found::Absent => MaybeText::No,
+        Some(Text {
+            at: found.at,
+            len: cut(found.len),
+        })
     }
 }
 
-pub(crate) fn find_number(s: &[u8], at: u16, id: u16) -> MaybeNumber
-    ensures { result ≡ number_of (node_from s.now at) id }
-{
-    let f = find(s, at, id);
-    match f {
-        Found::At { at, len: _, kind } => {
-            if kind == kind::NUMBER {
-                MaybeNumber::Is(single(get32(s, wide32(at))))
-            } else {
-                MaybeNumber::No
-            }
+impl FromValue for f32 {
+    ghost says = { NumberSays };
+
+    ghost none_said = { λ s. number_none s };
+
+    fn parse(bytes: &[u8], found: Found) -> Option<Self> {
+        if found.kind != ValueKind::Number as u8 {
+            return None;
         }
-        Found::Absent => MaybeNumber::No,
+        Some(single(get32(bytes, found.at as usize)))
     }
 }
 
-pub(crate) fn find_numbers(s: &[u8], at: u16, id: u16) -> MaybeNumbers
-    ensures { maybe_numbers_is s.now result ≡ numbers_of (node_from s.now at) id }
-{
-    let f = find(s, at, id);
-    match f {
-        Found::At { at, len, kind } => {
-            if kind == kind::NUMBERS {
-                return MaybeNumbers::Is(packed(at, len / size::NUMBER));
-            }
-            if kind == kind::TYPED {
-                return MaybeNumbers::Is(typed(at, len));
-            }
-            MaybeNumbers::No
+impl FromValue for Numbers {
+    ghost says = { NumbersSays };
+
+    ghost none_said = { λ s. numbers_none s };
+
+    fn parse(bytes: &[u8], found: Found) -> Option<Self> {
+        match ValueKind::try_from(found.kind) {
+            Ok(ValueKind::Numbers) => Some(packed(found.at, found.len / size::NUMBER)),
+            Ok(ValueKind::Typed) => Some(typed(found.at, found.len)),
+            _ => None,
         }
-        Found::Absent => MaybeNumbers::No,
     }
 }
 
-fn unit_of(b: u8) -> LengthUnit
-    ensures { result ≡ unit_of b }
-{
-    match b {
-        unit::EM => LengthUnit::Em,
-        unit::EX => LengthUnit::Ex,
-        unit::PX => LengthUnit::Px,
-        unit::IN => LengthUnit::In,
-        unit::CM => LengthUnit::Cm,
-        unit::MM => LengthUnit::Mm,
-        unit::PT => LengthUnit::Pt,
-        unit::PC => LengthUnit::Pc,
-        unit::PERCENT => LengthUnit::Percent,
-        _ => LengthUnit::None,
+impl From<u8> for LengthUnit {
+    ghost from_gives = { λ byte unit. unit ≡ unit_of byte };
+
+    #[tactic(auto, unfolding(crate::specs::Parse::unit_of))]
+    fn from(byte: u8) -> LengthUnit {
+        match byte {
+            unit::EM => LengthUnit::Em,
+            unit::EX => LengthUnit::Ex,
+            unit::PX => LengthUnit::Px,
+            unit::IN => LengthUnit::In,
+            unit::CM => LengthUnit::Cm,
+            unit::MM => LengthUnit::Mm,
+            unit::PT => LengthUnit::Pt,
+            unit::PC => LengthUnit::Pc,
+            unit::PERCENT => LengthUnit::Percent,
+            _ => LengthUnit::None,
+        }
     }
 }
 
+#[tactic(auto, unfolding(crate::specs::Parse::length_at, crate::specs::Readers::length_in, num::specs::Means::double_of))]
 pub fn length_from(s: &[u8], at: usize) -> Length
     requires { at < 2 ^ 33 }
-    ensures { MaybeLength.Is result ≡ length_in (length_at s.now at) }
+    ensures { Some result ≡ length_in (length_at s.now at) }
 {
-    let unit = unit_of(byte(s, at));
     Length {
         number: double_narrowed(get64(s, at + marked::NUMBER)),
-        unit,
+        unit: LengthUnit::from(byte(s, at)),
     }
 }
 
-pub(crate) fn find_length(s: &[u8], at: u16, id: u16) -> MaybeLength
-    ensures { result ≡ length_of (node_from s.now at) id }
-{
-    let f = find(s, at, id);
-    match f {
-        Found::At { at, len: _, kind } => {
-            if kind == kind::LENGTH {
-                MaybeLength::Is(length_from(s, wide32(at)))
-            } else {
-                MaybeLength::No
-            }
+impl FromValue for Length {
+    ghost says = { LengthSays };
+
+    ghost none_said = { λ s. length_none s };
+
+    fn parse(bytes: &[u8], found: Found) -> Option<Self> {
+        if found.kind != ValueKind::Length as u8 {
+            return None;
         }
-        Found::Absent => MaybeLength::No,
+        Some(length_from(bytes, found.at as usize))
     }
 }
 
@@ -134,58 +138,53 @@ pub fn color_from(s: &[u8], at: usize) -> Color
     }
 }
 
-pub(crate) fn find_color(s: &[u8], at: u16, id: u16) -> MaybeColor
-    ensures { result ≡ color_of (node_from s.now at) id }
-{
-    let f = find(s, at, id);
-    match f {
-        Found::At { at, len: _, kind } => {
-            if kind == kind::COLOR {
-                MaybeColor::Is(color_from(s, wide32(at)))
-            } else {
-                MaybeColor::No
-            }
+impl FromValue for Color {
+    ghost says = { ColorSays };
+
+    ghost none_said = { λ s. color_none s };
+
+    fn parse(bytes: &[u8], found: Found) -> Option<Self> {
+        if found.kind != ValueKind::Color as u8 {
+            return None;
         }
-        Found::Absent => MaybeColor::No,
+        Some(color_from(bytes, found.at as usize))
     }
 }
 
-fn try_at(s: &[u8], at: usize) -> Try
+#[tactic(auto, unfolding(crate::specs::Parse::try_at))]
+fn try_at(s: &[u8], at: usize) -> Option<u64>
     requires { at < 2 ^ 33 }
     ensures { try_is result ≡ try_at s.now at }
 {
     if byte(s, at) == 1 {
-        return Try::Is(get64(s, at + marked::NUMBER));
+        return Some(get64(s, at + marked::NUMBER));
     }
-    Try::No
+    None
 }
 
-fn tries_from(s: &[u8], at: usize) -> MaybeTries
+fn tries_from(s: &[u8], at: usize) -> Option<Tries>
     requires { at < 2 ^ 32 }
-    ensures { maybe_tries_is result ≡ some (tried_at s.now at) }
+    ensures { maybe_tries_is result ≡ Some (tried_at s.now at) }
 {
     let first = try_at(s, at);
     let second = try_at(s, at + tries::SECOND);
     let third = try_at(s, at + tries::THIRD);
-    MaybeTries::Is(Tries {
+    Some(Tries {
         first,
         second,
         third,
     })
 }
 
-pub(crate) fn find_tries(s: &[u8], at: u16, id: u16) -> MaybeTries
-    ensures { maybe_tries_is result ≡ tries_of (node_from s.now at) id }
-{
-    let f = find(s, at, id);
-    match f {
-        Found::At { at, len: _, kind } => {
-            if kind == kind::TRIES {
-                tries_from(s, wide32(at))
-            } else {
-                MaybeTries::No
-            }
+impl FromValue for Tries {
+    ghost says = { TriesSays };
+
+    ghost none_said = { λ s. tries_none s };
+
+    fn parse(bytes: &[u8], found: Found) -> Option<Self> {
+        if found.kind != ValueKind::Tries as u8 {
+            return None;
         }
-        Found::Absent => MaybeTries::No,
+        tries_from(bytes, found.at as usize)
     }
 }

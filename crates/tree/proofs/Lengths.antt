@@ -1,4 +1,5 @@
 -- How many bytes each value is. Assumes nothing.
+use Rattle.std.specs.Prelude.{Float, None, Option, Some}
 use Prim.Native.Nat.{◌+◌, ◌*◌}
 use native.Mathlib.Omega.{arith}
 use mathlib.Core.Path.{◌≡◌, refl}
@@ -12,8 +13,6 @@ use Rattle.tree.specs.Kinds.{Kind, ColorMatrixKind, Matrix, Saturate, HueRotate,
 use Rattle.tree.specs.Fields.{field_bytes, color_matrix_kind_bytes, transfer_function_bytes, component_transfer_bytes, composite_operator_bytes, convolve_matrix_data_bytes, convolve_matrix_bytes, distant_light_bytes, triple_bytes, point_light_bytes, spot_light_bytes, light_source_bytes, diffuse_lighting_bytes, displacement_map_bytes, drop_shadow_bytes, flood_bytes, gaussian_blur_bytes, morphology_bytes, offset_bytes, specular_lighting_bytes, turbulence_bytes}
 use Rattle.tree.specs.Sizes.{field_size, color_matrix_kind_size, transfer_function_size, component_transfer_size, composite_operator_size, convolve_matrix_size, light_source_size, diffuse_lighting_size, specular_lighting_size, option_size, total}
 use Rattle.tree.specs.List.{primitive_size, records_bytes, list_bytes}
-use Rattle.tree.specs.declared.OptionF32.{OptionF32}
-use Rattle.tree.specs.declared.OptionF32.TheVariants.{None, Some}
 use Rattle.tree.specs.declared.CompositeOperator.{CompositeOperator}
 use Rattle.tree.specs.declared.CompositeOperator.TheVariants.{Over, In, Out, Atop, Xor, Lighter, Arithmetic}
 use Rattle.tree.specs.declared.LightSource.{LightSource}
@@ -34,7 +33,7 @@ pub length_rect : (r : Rect) → length (rect_bytes r) ≡ 16
 unfolding rect_bytes bytes32
 length_rect r = refl
 
-length_option : (v : OptionF32) → length (option_bytes v) ≡ option_size v
+length_option : (v : Option Float) → length (option_bytes v) ≡ option_size v
 unfolding option_bytes bytes32
 length_option None = refl
 length_option (Some x) = refl

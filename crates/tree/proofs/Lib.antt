@@ -2,4 +2,3 @@ pub mod Runs
 pub mod Lengths
 pub mod Inputs
 pub mod Pairs
-pub mod Signed

@@ -1,6 +1,6 @@
 -- Lists and kinds with their bytes, each found by computing. The first is the example of the list's format; the others are what
 -- the crate gives for such children.
-use Rattle.std.specs.Prelude.{ℕ, ◌≡◌, refl, [], ◌∷◌, true, negsuc, Float}
+use Rattle.std.specs.Prelude.{ℕ, ◌≡◌, refl, [], ◌∷◌, true, negsuc, Float, Some}
 use Rattle.std.specs.Float.{binary32}
 use Rattle.std.specs.Float.Ieee.{of_bits, to_bits, round, sub}
 use Rattle.bits.specs.Bytes.{bytes16, bytes32}
@@ -14,7 +14,6 @@ use Rattle.tree.specs.declared.ColorInterpolation.TheVariants.{SRGB, LinearRGB}
 use Rattle.tree.specs.declared.BlendMode.TheVariants.{Screen}
 use Rattle.tree.specs.declared.EdgeMode.TheVariants.{Wrap}
 use Rattle.tree.specs.declared.TurbulenceKind.TheVariants.{FractalNoise}
-use Rattle.tree.specs.declared.OptionF32.TheVariants.{Some}
 use Rattle.tree.specs.declared.LightSource.TheVariants.{SpotLight}
 use Rattle.num.specs.Constants.{plus_zero as zero, one, two}
 

@@ -1,18 +1,16 @@
 -- Numbers, bools, options, colours, rectangles and lists of numbers, as the list has them. Definitions only.
-use Rattle.std.specs.Prelude.{ℕ, ◌-◌, List, [], ◌∷◌, ◌++◌, Bool, true, false, length, ℤ, pos, negsuc, Float}
+use Rattle.std.specs.Prelude.{ℕ, ◌-◌, List, [], ◌∷◌, ◌++◌, Bool, true, false, length, ℤ, pos, negsuc, Float, None, Option, Some}
 use Rattle.bits.specs.Bytes.{bytes16, bytes32, bytes_f}
 use Rattle.geom.specs.declared.Rect.{Rect}
 use Rattle.geom.specs.Geometry.{width_of, height_of}
 use Rattle.tree.specs.declared.Color.{Color}
-use Rattle.tree.specs.declared.OptionF32.{OptionF32}
-use Rattle.tree.specs.declared.OptionF32.TheVariants.{None, Some}
 
 -- "Option and bool as one byte, then any value"
 abbrev pub bool_byte : Bool → ℕ
 bool_byte false = 0
 bool_byte true = 1
 
-unfoldable pub option_bytes : OptionF32 → List ℕ
+unfoldable pub option_bytes : Option Float → List ℕ
 option_bytes None = 0 ∷ []
 option_bytes (Some x) = (1 ∷ []) ++ bytes_f x
 

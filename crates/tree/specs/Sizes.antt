@@ -1,6 +1,6 @@
 -- How many bytes each value takes, where that differs from value to value: the lengths of the bytes in Scalars.antt and Fields.antt, as
 -- proofs/Lengths.antt says of each. Definitions only.
-use Rattle.std.specs.Prelude.{ℕ, ◌+◌, ◌*◌, List, [], ◌∷◌, Float, length}
+use Rattle.std.specs.Prelude.{ℕ, ◌+◌, ◌*◌, List, [], ◌∷◌, Float, length, None, Option, Some}
 use Rattle.tree.specs.Kinds as kind
 use Rattle.tree.specs.Kinds.{Kind, ColorMatrixKind, Matrix, Saturate, HueRotate, LuminanceToAlpha, TransferFunction, Identity, Table, Discrete, Linear, Gamma, ComponentTransferFields, ConvolveMatrixData, ConvolveMatrixFields}
 use Rattle.tree.specs.declared.CompositeOperator.{CompositeOperator}
@@ -10,10 +10,8 @@ use Rattle.tree.specs.declared.LightSource.{LightSource}
 use Rattle.tree.specs.declared.LightSource.TheVariants as light
 use Rattle.tree.specs.declared.DiffuseLighting.{DiffuseLighting}
 use Rattle.tree.specs.declared.SpecularLighting.{SpecularLighting}
-use Rattle.tree.specs.declared.OptionF32.{OptionF32}
-use Rattle.tree.specs.declared.OptionF32.TheVariants.{None, Some}
 
-abbrev pub option_size : OptionF32 → ℕ
+abbrev pub option_size : Option Float → ℕ
 option_size None = 1
 option_size (Some x) = 5
 

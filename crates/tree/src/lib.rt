@@ -3,6 +3,9 @@
 // each struct of the source they come first, so a kind is its place, its inputs, and the fields that these types hold.
 #![tactic(auto)]
 
+ghost use Rattle.std.specs.Prelude.{◌≡◌};
+ghost use Rattle.tree.specs.Places.{color_interpolation_place, blend_mode_place, edge_mode_place, color_channel_place, morphology_operator_place, turbulence_kind_place};
+
 use number_list::Numbers;
 
 // The types of tree/mod.rs.
@@ -41,13 +44,6 @@ pub enum BlendMode {
 pub enum ColorInterpolation {
     SRGB,
     LinearRGB,
-}
-
-// The source's Option<f32>.
-#[derive(Clone, Copy)]
-pub enum OptionF32 {
-    None,
-    Some(f32),
 }
 
 // Identity is the source's default, a matrix of 20 numbers that stands in no lent bytes.
@@ -179,7 +175,7 @@ pub struct SpotLight {
     pub points_at_y: f32,
     pub points_at_z: f32,
     pub specular_exponent: f32,
-    pub limiting_cone_angle: OptionF32,
+    pub limiting_cone_angle: Option<f32>,
 }
 
 #[derive(Clone, Copy)]
@@ -239,4 +235,54 @@ pub struct Turbulence {
     pub seed: i32,
     pub stitch_tiles: bool,
     pub kind: TurbulenceKind,
+}
+
+// An enum whose variants hold nothing, as its variant's place in the declaration.
+
+impl From<BlendMode> for u8 {
+    ghost from_gives = { λ mode place. place ≡ blend_mode_place mode };
+
+    fn from(mode: BlendMode) -> u8 {
+        mode as u8
+    }
+}
+
+impl From<ColorInterpolation> for u8 {
+    ghost from_gives = { λ space place. place ≡ color_interpolation_place space };
+
+    fn from(space: ColorInterpolation) -> u8 {
+        space as u8
+    }
+}
+
+impl From<EdgeMode> for u8 {
+    ghost from_gives = { λ edge place. place ≡ edge_mode_place edge };
+
+    fn from(edge: EdgeMode) -> u8 {
+        edge as u8
+    }
+}
+
+impl From<ColorChannel> for u8 {
+    ghost from_gives = { λ channel place. place ≡ color_channel_place channel };
+
+    fn from(channel: ColorChannel) -> u8 {
+        channel as u8
+    }
+}
+
+impl From<MorphologyOperator> for u8 {
+    ghost from_gives = { λ operator place. place ≡ morphology_operator_place operator };
+
+    fn from(operator: MorphologyOperator) -> u8 {
+        operator as u8
+    }
+}
+
+impl From<TurbulenceKind> for u8 {
+    ghost from_gives = { λ kind place. place ≡ turbulence_kind_place kind };
+
+    fn from(kind: TurbulenceKind) -> u8 {
+        kind as u8
+    }
 }

@@ -1,4 +1,6 @@
 -- Twins are answered the same: past the layout and the typed lists a call looks at the node count and at what the sheet says alone. Assumes nothing.
+use Rattle.answer.specs.declared.Refusal.{Refusal}
+use Rattle.std.specs.Prelude.{Err, Result}
 use Prim.Native.Nat.{ℕ, ◌≤◌}
 use native.Mathlib.Omega.{arith}
 use mathlib.Core.Path.{◌≡◌, refl, sym, ap, ap₂, ◌∙◌}
@@ -10,8 +12,6 @@ use lib.Seq.{take-append_seam}
 use borrow.Author.Tests.{le-ltb}
 use Rattle.answer.specs.Outcomes.{Outcome, refused, given, unless_refused, outcome_length, outcome_output, Answers}
 use Rattle.answer.specs.declared.Answer.{Answer}
-use Rattle.answer.specs.declared.Checked.{Checked}
-use Rattle.answer.specs.declared.Checked.TheVariants as checked
 use Rattle.answer.specs.declared.Refusal.TheVariants.{TooLarge}
 use Rattle.answer.proofs.Laws.{answers_as}
 use Rattle.sheet_fields.specs.Fields.{header_pairs}
@@ -28,8 +28,8 @@ use Rattle.twins.specs.Twins.{Twins, SameAnswer}
 use Rattle.twins.proofs.Sheets.{count_same, sheet_same, passes, twin_passes}
 
 -- the tests of the bytes that are left in the layout, within the size, where the typed lists pass
-abbrev tests_left : (count : ℕ) → Sheet → Checked
-tests_left count sheet = cond (ltb 512 count) (checked.Refused TooLarge) (values_refusal sheet)
+abbrev tests_left : (count : ℕ) → Sheet → Result (Unit {0}) Refusal
+tests_left count sheet = cond (ltb 512 count) (Err TooLarge) (values_refusal sheet)
 
 tests_left_lem : (s : List ℕ) → layout_ok s ≡ true → length s ≤ 65536 → (grammar_ok s ≡ true) × (limits_ok s ≡ true) → first_refusal s ≡ tests_left (count_of s) (sheet_of s)
 unfolding first_refusal too_large
@@ -67,7 +67,7 @@ module _ (s t : List ℕ) (w : Twins s t) where
   pub outcome_same : (room : ℕ) → outcome s room ≡ outcome t room
   unfolding outcome sheet_of
   outcome_same room =
-      ap₂ (λ (c : Checked) (sheet : Sheet). unless_refused c (in_region room sheet.header sheet.nodes (filter_region_of sheet.header)))
+      ap₂ (λ (c : Result (Unit {0}) Refusal) (sheet : Sheet). unless_refused c (in_region room sheet.header sheet.nodes (filter_region_of sheet.header)))
       refusal_same (sheet_same s t w)
 
   -- what the contract of the call says of both, with outputs of one length, is enough

@@ -1,4 +1,5 @@
 -- A converted length of finite numbers is no NaN, and f32 holds it; and what the readers of a sheet give is finite. Assumes nothing.
+use Rattle.std.specs.Prelude.{Float, None, Option, Some}
 use Prim.Native.Nat.{ℕ}
 use mathlib.Core.Path.{◌≡◌, refl, subst}
 use mathlib.Core.Bool.{Bool, true, false, cond, ◌||◌}
@@ -15,14 +16,10 @@ use Rattle.names.specs.Ids.{aid_y, aid_height}
 use Rattle.svgtree.specs.declared.LengthUnit.{LengthUnit}
 use Rattle.svgtree.specs.declared.LengthUnit.TheVariants as unit
 use Rattle.svgtree.specs.declared.Length.{Length}
-use Rattle.svgtree.specs.declared.MaybeLength.{MaybeLength}
-use Rattle.svgtree.specs.declared.MaybeLength.TheVariants as maybe-length
-use Rattle.svgtree.specs.declared.MaybeNumber.{MaybeNumber}
-use Rattle.svgtree.specs.declared.MaybeNumber.TheVariants as maybe-number
 use Rattle.svgtree.specs.Values.{Value, absent, text_value, number_value, numbers_value, length_value, color_value, tries_value, Node}
 use Rattle.svgtree.specs.Readers.{length_in, value_under, font_size_of}
-use Rattle.units.specs.declared.Units.{Units}
-use Rattle.units.specs.declared.Units.TheVariants as units
+use Rattle.svgtree.specs.declared.Units.{Units}
+use Rattle.svgtree.specs.declared.Units.TheVariants as units
 use Rattle.units.specs.declared.State.{State}
 use Rattle.num.specs.Constants.{two}
 use Rattle.units.specs.Lengths.{cm_per_inch, mm_per_inch, pt_per_inch, pc_per_inch, hundred, percent_base, percent_of, of_unit, convert_length, converted, try_convert_length, resolve_number}
@@ -90,10 +87,10 @@ read_length : (u : LengthUnit) (x : Float) → ReadLength (record { number = or_
 read_length u x = record { finite_number = or_zero_finite (narrowed x); fits_number = or_zero_fits (narrowed x) (narrowed_fits x) }
 
 -- a length that was read, if any
-abbrev pub Readable : MaybeLength → Type 0
-Readable m = (l : Length) → m ≡ maybe-length.Is l → ReadLength l
+abbrev pub Readable : Option Length → Type 0
+Readable m = (l : Length) → m ≡ Some l → ReadLength l
 
-none_read : Readable maybe-length.No
+none_read : Readable None
 none_read l e = let z : ◌≡◌ {A = ℕ} 0 1 = cc in absurd (zero_one z)
 
 pub readable : (v : Value) → Readable (length_in v)
@@ -107,17 +104,17 @@ readable (color_value k) = none_read
 readable (tries_value t) = none_read
 
 -- ---- an attribute of the filter element, and one of a node
-pub resolve_single : (m : MaybeLength) (aid : ℕ) (u : Units) (state : State) (size : Float) (def : Length) → Readable m → FiniteState state → T (finite size) → ReadLength def
+pub resolve_single : (m : Option Length) (aid : ℕ) (u : Units) (state : State) (size : Float) (def : Length) → Readable m → FiniteState state → T (finite size) → ReadLength def
     → Single (resolve_number m aid u state size def)
-resolve_single (maybe-length.Is l) aid u state size def r f s d = length_single l aid u state size (r l refl) f s
-resolve_single maybe-length.No aid u state size def r f s d = length_single def aid u state size d f s
+resolve_single (Some l) aid u state size def r f s d = length_single l aid u state size (r l refl) f s
+resolve_single None aid u state size def r f s d = length_single def aid u state size d f s
 
-abbrev pub AllSingle : MaybeNumber → Type 0
-AllSingle m = (x : Float) → m ≡ maybe-number.Is x → Single x
+abbrev pub AllSingle : Option Float → Type 0
+AllSingle m = (x : Float) → m ≡ Some x → Single x
 
-converted_single : (m : MaybeLength) (aid : ℕ) (u : Units) (state : State) (size : Float) → Readable m → FiniteState state → T (finite size) → AllSingle (converted m aid u state size)
-converted_single (maybe-length.Is l) aid u state size r f s = λ x e. let i : convert_length l aid u state size ≡ x = cc in subst Single i (length_single l aid u state size (r l refl) f s)
-converted_single maybe-length.No aid u state size r f s = λ x e. let z : ◌≡◌ {A = ℕ} 0 1 = cc in absurd (zero_one z)
+converted_single : (m : Option Length) (aid : ℕ) (u : Units) (state : State) (size : Float) → Readable m → FiniteState state → T (finite size) → AllSingle (converted m aid u state size)
+converted_single (Some l) aid u state size r f s = λ x e. let i : convert_length l aid u state size ≡ x = cc in subst Single i (length_single l aid u state size (r l refl) f s)
+converted_single None aid u state size r f s = λ x e. let z : ◌≡◌ {A = ℕ} 0 1 = cc in absurd (zero_one z)
 
 pub try_single : (n : Node) (aid : ℕ) (u : Units) (state : State) → FiniteState state → AllSingle (try_convert_length n aid u state)
 try_single n aid u state f = converted_single (length_in (value_under aid n.attributes)) aid u state (font_size_of n) (readable (value_under aid n.attributes)) f (or_zero_finite n.font_size)

@@ -6,8 +6,8 @@ use Rattle.geom.specs.declared.Size.{Size}
 use Rattle.num.specs.Constants.{one}
 use Rattle.names.specs.Ids.{aid_x, aid_y}
 use Rattle.svgtree.specs.declared.LengthUnit.TheVariants.{In}
-use Rattle.units.specs.declared.Units.{Units}
-use Rattle.units.specs.declared.Units.TheVariants.{UserSpaceOnUse, ObjectBoundingBox}
+use Rattle.svgtree.specs.declared.Units.{Units}
+use Rattle.svgtree.specs.declared.Units.TheVariants.{UserSpaceOnUse, ObjectBoundingBox}
 use Rattle.units.specs.Lengths.{hundred, percent, convert_length}
 
 -- 0.5, 50, 96 and 200 as f32

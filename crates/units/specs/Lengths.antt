@@ -1,5 +1,5 @@
 -- A length as a number: document 01, "parser/units.rs". Each product and each quotient is an f32 operation, rounded once. Definitions only.
-use Rattle.std.specs.Prelude.{ℕ, cond, ◌||◌, eqb, Float}
+use Rattle.std.specs.Prelude.{ℕ, cond, ◌||◌, eqb, Float, None, Option, Some}
 use Rattle.std.specs.Float.{binary32}
 use Rattle.std.specs.Float.Ieee.{mul, div, of_bits}
 use Rattle.geom.specs.declared.Size.{Size}
@@ -7,16 +7,10 @@ use Rattle.names.specs.Ids.{aid_y, aid_height}
 use Rattle.svgtree.specs.declared.LengthUnit.{LengthUnit}
 use Rattle.svgtree.specs.declared.LengthUnit.TheVariants as unit
 use Rattle.svgtree.specs.declared.Length.{Length}
-use Rattle.svgtree.specs.declared.MaybeLength.{MaybeLength}
-use Rattle.svgtree.specs.declared.MaybeLength.TheVariants as maybe-length
-use Rattle.svgtree.specs.declared.MaybeNumber.{MaybeNumber}
-use Rattle.svgtree.specs.declared.MaybeNumber.TheVariants as maybe-number
-use Rattle.svgtree.specs.declared.MaybeUnits.{MaybeUnits}
-use Rattle.svgtree.specs.declared.MaybeUnits.TheVariants as given
 use Rattle.svgtree.specs.Values.{Node}
 use Rattle.svgtree.specs.Readers.{length_of, font_size_of}
-use Rattle.units.specs.declared.Units.{Units}
-use Rattle.units.specs.declared.Units.TheVariants as units
+use Rattle.svgtree.specs.declared.Units.{Units}
+use Rattle.svgtree.specs.declared.Units.TheVariants as units
 use Rattle.units.specs.declared.State.{State}
 use Rattle.num.specs.Constants.{two}
 
@@ -66,23 +60,22 @@ convert_length length aid object_units state font_size =
     of_unit length.unit length.number state.dpi font_size (percent_of object_units length.number (percent_base aid state.view_box))
 
 -- a length under an attribute of a node, absent or converted with the node's font size
-abbrev pub converted : MaybeLength → (aid : ℕ) → Units → State → (font_size : Float) → MaybeNumber
-converted (maybe-length.Is length) aid object_units state font_size = maybe-number.Is (convert_length length aid object_units state font_size)
-converted maybe-length.No aid object_units state font_size = maybe-number.No
+abbrev pub converted : Option Length → (aid : ℕ) → Units → State → (font_size : Float) → Option Float
+converted (Some length) aid object_units state font_size = Some (convert_length length aid object_units state font_size)
+converted None aid object_units state font_size = None
 
-abbrev pub try_convert_length : Node → (aid : ℕ) → Units → State → MaybeNumber
+abbrev pub try_convert_length : Node → (aid : ℕ) → Units → State → Option Float
 try_convert_length node aid object_units state = converted (length_of node aid) aid object_units state (font_size_of node)
 
 -- ---- attributes of the filter element, each with its default
 
-abbrev pub convert_units : MaybeUnits → Units → Units
-convert_units given.UserSpaceOnUse def = units.UserSpaceOnUse
-convert_units given.ObjectBoundingBox def = units.ObjectBoundingBox
-convert_units given.Absent def = def
+abbrev pub convert_units : Option Units → Units → Units
+convert_units (Some given) def = given
+convert_units None def = def
 
-abbrev pub resolve_number : MaybeLength → (aid : ℕ) → Units → State → (font_size : Float) → (def : Length) → Float
-resolve_number (maybe-length.Is length) aid object_units state font_size def = convert_length length aid object_units state font_size
-resolve_number maybe-length.No aid object_units state font_size def = convert_length def aid object_units state font_size
+abbrev pub resolve_number : Option Length → (aid : ℕ) → Units → State → (font_size : Float) → (def : Length) → Float
+resolve_number (Some length) aid object_units state font_size def = convert_length length aid object_units state font_size
+resolve_number None aid object_units state font_size def = convert_length def aid object_units state font_size
 
 -- n percent as a length
 abbrev pub percent : Float → Length

@@ -6,15 +6,7 @@ ghost use Rattle.units.specs.Lengths.{percent_base, percent_of, convert_units, c
 
 use geom::Size;
 use names::aid;
-use svgtree::header::dpi;
-use svgtree::{Length, LengthUnit, MaybeLength, MaybeNumber, MaybeUnits, font_size};
-
-// What filterUnits and primitiveUnits say.
-#[derive(Clone, Copy)]
-pub enum Units {
-    UserSpaceOnUse,
-    ObjectBoundingBox,
-}
+use svgtree::{Length, LengthUnit, Units};
 
 // What a length is converted with, beside the font size: the part of converter.rs `State` in use.
 #[derive(Clone, Copy)]
@@ -29,13 +21,10 @@ pub struct State {
 fn percent_base(aid: u16, view_box: Size) -> f32
     ensures { result ≡ percent_base aid view_box }
 {
-    if aid == aid::Y {
-        return view_box.height;
+    match aid {
+        aid::Y | aid::HEIGHT => view_box.height,
+        _ => view_box.width,
     }
-    if aid == aid::HEIGHT {
-        return view_box.height;
-    }
-    view_box.width
 }
 
 fn convert_percent(n: f32, units: Units, base: f32) -> f32
@@ -48,59 +37,48 @@ fn convert_percent(n: f32, units: Units, base: f32) -> f32
 }
 
 // Every length goes through this function.
+#[tactic(auto, unfolding(crate::specs::Lengths::convert_length))]
 pub fn convert_length(length: Length, aid: u16, units: Units, state: State, font_size: f32) -> f32
     ensures { result ≡ convert_length length aid units state font_size }
 {
-    let dpi = state.dpi;
-    let n = length.number;
-    let unit = length.unit;
+    let Length { number: n, unit } = length;
     match unit {
-        LengthUnit::None => n,
-        LengthUnit::Px => n,
+        LengthUnit::None | LengthUnit::Px => n,
         LengthUnit::Em => n * font_size,
         LengthUnit::Ex => n * font_size / 2.0,
-        LengthUnit::In => n * dpi,
-        LengthUnit::Cm => n * dpi / 2.54,
-        LengthUnit::Mm => n * dpi / 25.4,
-        LengthUnit::Pt => n * dpi / 72.0,
-        LengthUnit::Pc => n * dpi / 6.0,
+        LengthUnit::In => n * state.dpi,
+        LengthUnit::Cm => n * state.dpi / 2.54,
+        LengthUnit::Mm => n * state.dpi / 25.4,
+        LengthUnit::Pt => n * state.dpi / 72.0,
+        LengthUnit::Pc => n * state.dpi / 6.0,
         LengthUnit::Percent => convert_percent(n, units, percent_base(aid, state.view_box)),
     }
 }
 
 // A length of a node, where it is given.
 pub fn try_convert_length(
-    found: MaybeLength,
+    found: Option<Length>,
     aid: u16,
     units: Units,
     state: State,
     font_size: f32,
-) -> MaybeNumber
+) -> Option<f32>
     ensures { result ≡ converted found aid units state font_size }
 {
-    match found {
-        MaybeLength::Is(length) => MaybeNumber::Is(convert_length(
-            length, aid, units, state, font_size,
-        )),
-        MaybeLength::No => MaybeNumber::No,
-    }
+    found.map(|length| convert_length(length, aid, units, state, font_size))
 }
 
 // The filter element's attributes.
 
-pub fn convert_units(given: MaybeUnits, def: Units) -> Units
+pub fn convert_units(given: Option<Units>, def: Units) -> Units
     ensures { result ≡ convert_units given def }
 {
-    match given {
-        MaybeUnits::UserSpaceOnUse => Units::UserSpaceOnUse,
-        MaybeUnits::ObjectBoundingBox => Units::ObjectBoundingBox,
-        MaybeUnits::Absent => def,
-    }
+    given.unwrap_or(def)
 }
 
 // An attribute of the filter element, with its default, and the font size of the element that has it.
 pub fn resolve_number(
-    given: MaybeLength,
+    given: Option<Length>,
     aid: u16,
     units: Units,
     state: State,
@@ -109,8 +87,5 @@ pub fn resolve_number(
 ) -> f32
     ensures { result ≡ resolve_number given aid units state font_size def }
 {
-    match given {
-        MaybeLength::Is(length) => convert_length(length, aid, units, state, font_size),
-        MaybeLength::No => convert_length(def, aid, units, state, font_size),
-    }
+    convert_length(given.unwrap_or(def), aid, units, state, font_size)
 }

@@ -1,8 +1,7 @@
--- Two halves of four bytes. Assumes nothing.
-use Rattle.bits.specs.Bytes.{le64}
-use borrow.Author.Rules.{rules}
+-- The number's bytes are the run at the place. Assumes nothing.
+use mathlib.Core.Path.{◌∙◌}
+use Rattle.bits.proofs.Runs.{from_le_bytes-run_8}
 use Rattle.bits.proofs.get64.Goals as goal
 
 pub returns : goal.returns
-unfolding le64
-returns c = search rules
+returns c = rw c.bytes_at.ensures at c.from_le_bytes.ensures ∙ from_le_bytes-run_8 c.args.s.now c.args.at

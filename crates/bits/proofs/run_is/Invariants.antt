@@ -1,11 +1,8 @@
-use Prim.Native.Nat.{◌+◌, ◌-◌, ◌^◌, ◌<◌, ◌≤◌}
+use Prim.Native.Nat.{ℕ, ◌+◌, ◌<◌}
 use mathlib.Core.Path.{◌≡◌}
-use lib.ListN.{length, drop}
-use Rattle.bits.specs.Bytes.{bytes_from, same}
+use lib.ListN.{get_or}
 use Rattle.bits.proofs.run_is.Given as goal
 
+-- the run and the word agree below place j
 abbrev pub invariant-loop-j : goal.invariant-loop-j
-invariant-loop-j l = (l.j ≤ length l.w) × (l.at ≡ l.from + l.j) × (l.from < 2 ^ 33) × (same (bytes_from l.s l.from l.n) l.w ≡ same (bytes_from l.s l.at (length l.w - l.j)) (drop l.j l.w))
-
-abbrev pub decreases-loop-j : goal.decreases-loop-j
-decreases-loop-j l = length l.w - l.j
+invariant-loop-j l = (k : ℕ) → k < l.j → get_or l.s (l.from + k) 0 ≡ get_or l.w k 0

@@ -1,10 +1,8 @@
-use Prim.Native.Nat.{◌+◌, ◌<◌, ◌≤◌}
+use Prim.Native.Nat.{ℕ, ◌+◌, ◌<◌}
 use mathlib.Core.Path.{◌≡◌}
-use Rattle.bits.specs.Bytes.{bytes_from, same}
+use lib.ListN.{get_or}
 use Rattle.bits.proofs.same_text.Given as goal
 
-abbrev pub invariant-loop-left : goal.invariant-loop-left
-invariant-loop-left l = (l.p + l.left ≤ l.initial.p + l.initial.left) × (l.q + l.left ≤ l.initial.q + l.initial.left) × (l.initial.p < 4294967296) × (l.initial.q < 4294967296) × (same (bytes_from l.s l.initial.p l.initial.left) (bytes_from l.s l.initial.q l.initial.left) ≡ same (bytes_from l.s l.p l.left) (bytes_from l.s l.q l.left))
-
-abbrev pub decreases-loop-left : goal.decreases-loop-left
-decreases-loop-left l = l.left
+-- the texts agree below place j
+abbrev pub invariant-loop-j : goal.invariant-loop-j
+invariant-loop-j l = (k : ℕ) → k < l.j → get_or l.s (l.a.at + k) 0 ≡ get_or l.s (l.b.at + k) 0

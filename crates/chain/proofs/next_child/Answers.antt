@@ -1,7 +1,9 @@
--- Invariant: the chain from the start is the chain from node i, since every node before it was passed over. Assumes nothing.
+-- The chain from the start is the chain from node i, which goes on as that node's step says. Assumes nothing.
 use native.Mathlib.Omega.{arith}
 use mathlib.Core.Path.{◌≡◌, sym, ap, ◌∙◌}
 use Prim.Native.Nat.{◌<◌}
+use Rattle.std.specs.Prelude.{Ok}
+use Rattle.std.proofs.lemmas.Result.{err_from_is_err_and}
 use Rattle.svgtree.specs.Parse.{count_of}
 use Rattle.chain.specs.Means.{step_is, step_end}
 use Rattle.chain.proofs.Steps.{chain_goes, chain_end}
@@ -9,48 +11,38 @@ use Rattle.chain.proofs.next_child.Goals as goal
 
 pub returns-in-Count : goal.returns-in-Count
 returns-in-Count c =
-    let a = c.args in
-    let s = a.s.now in
     let l = c.loop-i in
-    let under : l.i < count_of s = omega (arith, l.invariant.3, c.loop-i-test.true) in
-    let e = sym c.step_of-step.ensures.0 ∙ ap (step_is s) c.in-Count.is in
-    let goes = chain_goes a.frame s l.i a.start under l.invariant.4 e in
-    record { exact = goes; here = (l.invariant.0, under, e, omega (arith, c.step_of-step.ensures.1, ap step_end c.in-Count.is)) }
+    let under : l.i < count_of c.args.s.now = omega (arith, c.node_count-i-end.ensures) in
+    let step = c.in_ok-child.ensures in
+    let counts = ap Ok c.in-Count.is in
+    let e = sym step.0 ∙ ap (step_is c.args.s.now) counts in
+    record {
+      exact = chain_goes c.args.frame c.args.s.now l.i c.args.start under l.invariant e;
+      here = (omega arith, under, e, omega (arith, step.1, ap step_end counts));
+    }
 
 pub returns-in-End : goal.returns-in-End
 returns-in-End c =
-    let a = c.args in
-    let s = a.s.now in
-    let l = c.loop-i in
-    let under : l.i < count_of s = omega (arith, l.invariant.3, c.loop-i-test.true) in
-    let e = sym c.step_of-step.ensures.0 ∙ ap (step_is s) c.in-End.is in
-    let goes = chain_goes a.frame s l.i a.start under l.invariant.4 e in
-    record { exact = goes; here = tt }
+    let under : c.loop-i.i < count_of c.args.s.now = omega (arith, c.node_count-i-end.ensures) in
+    let e = sym c.in_ok-child.ensures.0 ∙ ap (step_is c.args.s.now) (ap Ok c.in-End.is) in
+    record { exact = chain_goes c.args.frame c.args.s.now c.loop-i.i c.args.start under c.loop-i.invariant e; here = tt }
 
-pub returns-in-Refused : goal.returns-in-Refused
-returns-in-Refused c =
-    let a = c.args in
-    let s = a.s.now in
-    let l = c.loop-i in
-    let under : l.i < count_of s = omega (arith, l.invariant.3, c.loop-i-test.true) in
-    let e = sym c.step_of-step.ensures.0 ∙ ap (step_is s) c.in-Refused.is in
-    let goes = chain_goes a.frame s l.i a.start under l.invariant.4 e in
-    record { exact = goes; here = tt }
+pub returns-in_err-child : goal.returns-in_err-child
+returns-in_err-child c =
+    let under : c.loop-i.i < count_of c.args.s.now = omega (arith, c.node_count-i-end.ensures) in
+    let p = err_from_is_err_and c.from_residual.result c.from_residual.ensures.1 in
+    rw (p.1, p.2) (record {
+      exact = chain_goes c.args.frame c.args.s.now c.loop-i.i c.args.start under c.loop-i.invariant (sym c.in_err-child.ensures.0);
+      here = tt;
+    })
 
 pub loop-i-preserved : goal.loop-i-preserved
 loop-i-preserved c =
-    let a = c.args in
-    let s = a.s.now in
-    let l = c.loop-i in
-    let under : l.i < count_of s = omega (arith, l.invariant.3, c.loop-i-test.true) in
-    let e = sym c.step_of-step.ensures.0 ∙ ap (step_is s) c.in-Pass.is in
-    let goes = chain_goes a.frame s l.i a.start under l.invariant.4 e in
-    (omega (arith, l.invariant.0), omega (arith, under), l.invariant.2, l.invariant.3, goes)
+    let under : c.loop-i.i < count_of c.args.s.now = omega (arith, c.node_count-i-end.ensures) in
+    let e = sym c.in_ok-child.ensures.0 ∙ ap (step_is c.args.s.now) (ap Ok c.in-Pass.is) in
+    chain_goes c.args.frame c.args.s.now c.loop-i.i c.args.start under c.loop-i.invariant e
 
 pub returns : goal.returns
 returns c =
-    let a = c.args in
-    let s = a.s.now in
-    let l = c.loop-i in
-    let e : l.i ≡ count_of s = omega (arith, l.invariant.1, l.invariant.3, c.loop-i-test.false) in
-    record { exact = l.invariant.4 ∙ chain_end a.frame s l.i e; here = tt }
+    let e : c.loop-i.i ≡ count_of c.args.s.now = omega (arith, c.node_count-i-end.ensures) in
+    record { exact = c.loop-i.invariant ∙ chain_end c.args.frame c.args.s.now c.loop-i.i e; here = tt }

@@ -1,27 +1,25 @@
 -- Both operands are exact, so the one operation rounds the true value: a product where the power is not below 0, else a quotient. Assumes nothing.
-use Rattle.decimal.proofs.Tens.{times_ten, through_ten, shifted_up, shifted_down}
-use mathlib.Core.Path.{◌∙◌}
-use borrow.Author.Rules.{rules}
+use mathlib.Core.Path.{◌≡◌, ap, ◌∙◌}
+use mathlib.Core.Bool.{false}
+use Prim.Native.Nat.{ℕ, ◌^◌}
+use lib.IntN.{pos}
+use lib.Ieee.{Float, fin, binary64, mul, div}
+use mir.Syntax.{w64}
+use mir.ValLaws.{to_z-of_z}
+use Rattle.decimal.proofs.Powers.{times_power, through_power}
 use Rattle.decimal.proofs.double.Goals as goal
 
-pub signed_double-x-requires : goal.signed_double-x-requires
-signed_double-x-requires c = search rules
+ten : (x : Float) (a b : ℕ) → x ≡ fin false (5 ^ a) (pos a) → a ≡ b → x ≡ fin false (5 ^ b) (pos b)
+ten x a b e f = e ∙ ap (λ (k : ℕ). fin false (5 ^ k) (pos k)) f
 
-pub power_of_ten-requires : goal.power_of_ten-requires
-power_of_ten-requires c = search rules
+pub returns-then-power-ge0 : goal.returns-then-power-ge0
+returns-then-power-ge0 c =
+    let e = to_z-of_z w64 c.args.power c.ranges.power in
+    ap (mul binary64 c.signed_double-x.result) (ten _ _ _ c.power_of_ten-ten.ensures (rw e at c.unsigned_abs.ensures.value))
+    ∙ times_power c.args.minus c.args.n c.args.power _ c.signed_double-x.ensures (rw e at c.if-power-ge0.true)
 
-pub returns-then-down-up : goal.returns-then-down-up
-returns-then-down-up c =
-    let v = c.signed_double-x.ensures in
-    rw c.power_of_ten.ensures (times_ten _ _ _ _ v ∙ shifted_up _ _ _ _ c.if-down-up.true)
-
-pub overflow_sub-down : goal.overflow_sub-down
-overflow_sub-down c = search rules
-
-pub power_of_ten-requires-2 : goal.power_of_ten-requires-2
-power_of_ten-requires-2 c = search rules
-
-pub returns : goal.returns
-returns c =
-    let v = c.signed_double-x.ensures in
-    rw c.power_of_ten-2.ensures (through_ten _ _ _ _ v ∙ shifted_down _ _ _ _ c.if-down-up.false)
+pub returns-else-power-ge0 : goal.returns-else-power-ge0
+returns-else-power-ge0 c =
+    let e = to_z-of_z w64 c.args.power c.ranges.power in
+    ap (div binary64 c.signed_double-x.result) (ten _ _ _ c.power_of_ten-ten.ensures (rw e at c.unsigned_abs.ensures.value))
+    ∙ through_power c.args.minus c.args.n c.args.power _ c.signed_double-x.ensures (rw e at c.if-power-ge0.false)

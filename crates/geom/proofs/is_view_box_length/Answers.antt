@@ -1,12 +1,10 @@
--- `geom::is_view_box_length` meets its contract: what lies below the largest f32, and above zero, is finite. Assumes nothing.
-use lib.Ieee.{of_bits}
-use Rattle.geom.proofs.Sides.{view_box_below, view_box_not_above}
+-- `geom::is_view_box_length` meets its contract: it is a length, and lies below the largest f32. Assumes nothing.
+use mathlib.Core.Path.{sym, ap, ◌∙◌}
+use mathlib.Core.Bool.{Bool, ◌&&◌}
+use lib.Ieee.{of_bits, lt}
+use Rattle.geom.specs.Geometry.{largest, valid_length, view_box_length}
 use Rattle.geom.proofs.is_view_box_length.Goals as goal
 
-pub returns-then-x : goal.returns-then-x
-unfolding of_bits
-returns-then-x c = view_box_below c.args.x c.if-x.true
-
-pub returns-else-x : goal.returns-else-x
-unfolding of_bits
-returns-else-x c = view_box_not_above c.args.x c.if-x.false
+pub returns-then-is_valid_length : goal.returns-then-is_valid_length
+unfolding of_bits valid_length view_box_length
+returns-then-is_valid_length c = ap (λ (b : Bool). b && lt c.args.x largest) (sym c.if-is_valid_length.true ∙ c.is_valid_length.ensures)

@@ -1,12 +1,9 @@
-use Prim.Native.Nat.{◌*◌, ◌-◌, ◌≤◌}
-use mathlib.Core.Path.{◌≡◌}
-use lib.ListN.{length, take}
+use Prim.Native.Nat.{◌*◌}
+use lib.ListN.{take}
 use Rattle.hex_digits.specs.Hex.{hex_of}
-use Rattle.bits.specs.Patch.{Put}
+use Rattle.bits.specs.Writer.{Writes}
 use Rattle.hex_digits.proofs.put_hex.Given as goal
 
-abbrev pub invariant-loop-j : goal.invariant-loop-j
-invariant-loop-j l = (l.j ≤ length l.s) × (length l.out ≡ length l.initial.out) × Put l.initial.out l.at (2 * l.j) (hex_of (take l.j l.s)) l.out l.o
-
-abbrev pub decreases-loop-j : goal.decreases-loop-j
-decreases-loop-j l = length l.s - l.j
+-- the bytes so far are written as digits
+abbrev pub invariant-loop-b : goal.invariant-loop-b
+invariant-loop-b l = Writes l.initial.out (2 * l.b-index) (hex_of (take l.b-index l.s)) l.out

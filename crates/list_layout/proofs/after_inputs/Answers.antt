@@ -1,20 +1,22 @@
--- Invariant: what is left after all inputs is what is left after those still to come. Assumes nothing.
-use borrow.Author.Rules.{rules}
-use mathlib.Core.Path.{refl, sym, ◌∙◌, ap}
-use native.Mathlib.Omega.{arith}
-use Rattle.list_layout.specs.After.{place_is, after_inputs}
-use Rattle.list_layout.proofs.Walking.{inputs_step, inputs_end_lem}
+-- Each turn passes one of the inputs still to come: `inputs_step`.
+use Rattle.std.proofs.Common.{suc, ◌+◌, ◌-◌, ◌≡◌, ◌∙◌, refl, sym, arith}
+use Rattle.list_read.specs.Records.{read_inputs}
+use Rattle.list_read.specs.Read.{read_many}
+use Rattle.list_layout.proofs.Walking.{inputs_step}
 use Rattle.list_layout.proofs.after_inputs.Goals as goal
 
-pub loop-left-init : goal.loop-left-init
-loop-left-init c = refl
+pub returns-in_err-s : goal.returns-in_err-s
+returns-in_err-s c =
+    let more : c.args.n - c.loop.counter ≡ suc (c.args.n - (c.loop.counter + 1)) = omega arith in
+    rw c.from_residual.ensures (sym (c.loop.invariant ∙ rw more (inputs_step _ _ _ ∙ rw (← c.in_err-s.ensures) refl)))
 
-pub loop-left-preserved : goal.loop-left-preserved
-loop-left-preserved c =
-    let a = c.args in
-    c.loop-left.invariant ∙ inputs_step a.form c.loop-left.left (place_is a.s.now a.end c.loop-left.q) (search rules) ∙ ap (after_inputs a.form _) (sym c.after_input-q.ensures)
+pub loop-preserved : goal.loop-preserved
+loop-preserved c =
+    let more : c.args.n - c.loop.counter ≡ suc (c.args.n - (c.loop.counter + 1)) = omega arith in
+    c.loop.invariant ∙ rw more (inputs_step _ _ _ ∙ rw (← c.in_ok-s.ensures) refl)
 
 pub returns : goal.returns
+unfolding read_inputs read_many
 returns c =
-    let a = c.args in
-    sym (c.loop-left.invariant ∙ inputs_end_lem a.form c.loop-left.left (place_is a.s.now a.end c.loop-left.q) (omega arith))
+    let none : c.args.n - c.loop.counter ≡ 0 = omega arith in
+    sym (rw none at c.loop.invariant)

@@ -1,18 +1,19 @@
--- The place is below the number of cases, and each arm passes the items of its case: `enum_case`. The last arm has none. Assumes nothing.
-use Rattle.list_layout.proofs.Walking.{enum_case, enum_else, transfer_else}
+-- Each arm passes the items of its case: `case_at`, `case_of`.
+use Rattle.std.proofs.Common.{◌≡◌, refl, arith, [], ◌∷◌}
+use Rattle.list_read.specs.Layout.{f32s, vec}
+use Rattle.list_layout.proofs.Walking.{case_at, case_of, same_items}
 use Rattle.list_layout.proofs.after_transfer_function.Goals as goal
 
-pub returns-in-1 : goal.returns-in-1
-returns-in-1 c = enum_case _ _ _ _ c.byte_at-k.ensures c.after_byte_below-q.ensures 1 c.in-1.is _ c.after_vec.ensures
+pub returns-in-0 : goal.returns-in-0
+returns-in-0 c = case_at _ _ c.in_ok-k.ensures.value 0 c.in-0.is refl
 
-pub returns-in-2 : goal.returns-in-2
-returns-in-2 c = enum_case _ _ _ _ c.byte_at-k.ensures c.after_byte_below-q.ensures 2 c.in-2.is _ c.after_vec-in-2.ensures
+pub returns-in-1 : goal.returns-in-1
+returns-in-1 c = case_of _ _ c.in_ok-k.ensures.value (vec 0 1024 ∷ []) (same_items _ _ ((f32s 2 ∷ []) ∷ (f32s 3 ∷ []) ∷ []) c.in_ok-k.k (omega arith) (omega arith)) c.after_vec.ensures
 
 pub returns-in-3 : goal.returns-in-3
-returns-in-3 c = enum_case _ _ _ _ c.byte_at-k.ensures c.after_byte_below-q.ensures 3 c.in-3.is _ c.after_numbers.ensures
-
-pub returns-in-4 : goal.returns-in-4
-returns-in-4 c = enum_case _ _ _ _ c.byte_at-k.ensures c.after_byte_below-q.ensures 4 c.in-4.is _ c.after_numbers-in-4.ensures
+returns-in-3 c = case_at _ _ c.in_ok-k.ensures.value 3 c.in-3.is c.after_numbers.ensures
 
 pub returns-in_default : goal.returns-in_default
-returns-in_default c = let r = c.in_default.in_default-own.rest in enum_else _ _ _ _ c.byte_at-k.ensures c.after_byte_below-q.ensures (transfer_else c.byte_at-k.result r.0.0.0.1 r.0.0.1 r.0.1 r.1)
+returns-in_default c =
+    let last : c.in_ok-k.k ≡ 4 = omega (arith, c.in_ok-k.ensures.below) in
+    case_at _ _ c.in_ok-k.ensures.value 4 last c.after_numbers-in_default.ensures

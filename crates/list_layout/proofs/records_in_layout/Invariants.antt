@@ -1,10 +1,11 @@
-use Prim.Native.Nat.{◌+◌, ◌*◌, ◌≤◌}
-use mathlib.Core.Path.{◌≡◌}
-use Rattle.list_layout.proofs.Listing.{records_at}
+-- Each turn tests the record of the first pair still to come: all records are in the layout if those still to come are, behind the pairs still to come.
+use Rattle.std.proofs.Common.{◌≡◌, ◌+◌, length}
+use Rattle.std.specs.Slice.Iter.{chunks_exact_rest, chunks_exact_size}
+use Rattle.list_layout.proofs.Listing.{paired}
 use Rattle.list_layout.proofs.records_in_layout.Given as goal
 
-abbrev pub invariant-loop-left : goal.invariant-loop-left
-invariant-loop-left l = (l.a ≤ l.end) × (l.p + 8 * l.left ≡ l.pairs + 8 * l.n) × (records_at l.form l.s l.pairs l.at l.end l.n ≡ records_at l.form l.s l.p l.a l.end l.left)
-
-abbrev pub decreases-loop-left : goal.decreases-loop-left
-decreases-loop-left l = l.left
+abbrev pub invariant-loop-pair : goal.invariant-loop-pair
+invariant-loop-pair l =
+    (chunks_exact_size l.pair-iterator ≡ 8)
+    × (l.at + length l.left ≡ l.first + length l.records)
+    × (paired l.form l.first l.pairs l.records ≡ paired l.form l.at (chunks_exact_rest l.pair-iterator) l.left)

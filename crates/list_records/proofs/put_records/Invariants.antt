@@ -1,12 +1,9 @@
-use mathlib.Core.Path.{◌≡◌}
-use Prim.Native.Nat.{◌-◌, ◌≤◌}
 use lib.ListN.{length}
-use Rattle.bits.specs.Patch.{Put}
+use Rattle.bits.specs.Writer.{Writes}
 use Rattle.list_records.specs.Tables.{records_up_to}
 use Rattle.list_records.proofs.put_records.Given as goal
 
 abbrev pub invariant-loop-j : goal.invariant-loop-j
-invariant-loop-j l = (l.j ≤ l.records) × (length l.out ≡ length l.initial.out) × Put l.initial.out l.at (length (records_up_to l.frame l.s l.nodes l.names l.j)) (records_up_to l.frame l.s l.nodes l.names l.j) l.out l.o
-
-abbrev pub decreases-loop-j : goal.decreases-loop-j
-decreases-loop-j l = l.records - l.j
+invariant-loop-j l =
+    let done = records_up_to l.frame l.names.bytes.now l.nodes l.names.entries.now l.j in
+    Writes l.initial.out (length done) done l.out

@@ -1,10 +1,10 @@
 -- Four writers in a row are one. Assumes nothing.
 use native.Mathlib.Omega.{arith}
-use Rattle.bits.proofs.Patches.{◌then◌, ◌counted◌}
+use Rattle.bits.proofs.Writing.{◌then◌, ◌counted◌}
 use Rattle.tree.specs.Fields.{diffuse_lighting_bytes}
 use Rattle.list_values.proofs.put_diffuse_lighting.Goals as goal
 
 pub returns : goal.returns
 unfolding diffuse_lighting_bytes
 returns c =
-    c.put_f32-a.ensures then c.put_f32-b.ensures then c.put_color-c.ensures then c.put_light_source.ensures counted omega arith
+    c.put.ensures then c.put-2.ensures then c.put_color.ensures then c.put_light_source.ensures counted omega arith

@@ -1,13 +1,12 @@
-use Prim.Native.Nat.{◌+◌, ◌-◌, ◌*◌, ◌≤◌}
+use Prim.Native.Nat.{◌+◌, ◌*◌}
 use mathlib.Core.Path.{◌≡◌}
-use lib.ListN.{length, take}
-use Rattle.bits.specs.Patch.{Put}
+use lib.ListN.{take}
+use Rattle.bits.specs.Writer.{Writes}
 use Rattle.tree.specs.List.{pairs_bytes}
 use Rattle.tree.specs.Sizes.{total}
 use Rattle.list_values.proofs.put_pairs.Given as goal
 
-abbrev pub invariant-loop-j : goal.invariant-loop-j
-invariant-loop-j l = (l.j ≤ l.count) × (length l.out ≡ length l.initial.out) × (l.start ≡ l.base + total (take l.j l.sizes)) × Put l.initial.out l.at (8 * l.j) (pairs_bytes l.base (take l.j l.sizes)) l.out l.o
-
-abbrev pub decreases-loop-j : goal.decreases-loop-j
-decreases-loop-j l = l.count - l.j
+abbrev pub invariant-loop-k : goal.invariant-loop-k
+invariant-loop-k l =
+    let done = take l.k-index (take l.count l.sizes) in
+    record { next : l.start ≡ l.base + total done; written : Writes l.initial.out (8 * l.k-index) (pairs_bytes l.base done) l.out }

@@ -1,10 +1,10 @@
 -- Five writers in a row are one. Assumes nothing.
 use native.Mathlib.Omega.{arith}
-use Rattle.bits.proofs.Patches.{◌then◌, ◌counted◌}
+use Rattle.bits.proofs.Writing.{◌then◌, ◌counted◌}
 use Rattle.tree.specs.Fields.{specular_lighting_bytes}
 use Rattle.list_values.proofs.put_specular_lighting.Goals as goal
 
 pub returns : goal.returns
 unfolding specular_lighting_bytes
 returns c =
-    c.put_f32-a.ensures then c.put_f32-b.ensures then c.put_f32-c.ensures then c.put_color-d.ensures then c.put_light_source.ensures counted omega arith
+    c.put.ensures then c.put-2.ensures then c.put-3.ensures then c.put_color.ensures then c.put_light_source.ensures counted omega arith

@@ -1,9 +1,11 @@
--- `num::is_sign_negative` meets its contract: the bits stand for x, and their highest bit is its sign; the pattern of a NaN has it clear. Assumes nothing.
-use mathlib.Core.Path.{subst, sym}
-use lib.Dec.{T}
-use Rattle.num.proofs.Finite.{bits_back}
-use Rattle.num.proofs.Ends.{bits_negative}
+-- `num::is_sign_negative` meets its contract: the library's says the same of what is no NaN, and a NaN has no sign. Assumes nothing.
+use mathlib.Core.Path.{ap, sym, ◌∙◌}
+use mathlib.Core.Bool.{not}
+use Rattle.num.proofs.Library.{sign_same, nan_no_sign}
 use Rattle.num.proofs.is_sign_negative.Goals as goal
 
-pub returns : goal.returns
-returns c = bits_negative c.args.x c.bits_of.result c.bits_of.ensures (bits_back c.args.x c.bits_of.result (subst T (sym c.well_formed.0.1) tt) c.bits_of.ensures)
+pub returns-then-not-is_nan : goal.returns-then-not-is_nan
+returns-then-not-is_nan c = c.is_sign_negative.ensures ∙ sign_same c.args.x
+
+pub returns-else-not-is_nan : goal.returns-else-not-is_nan
+returns-else-not-is_nan c = ap not c.if-not-is_nan.false ∙ nan_no_sign c.args.x (sym c.is_nan.ensures.value ∙ c.if-not-is_nan.false)

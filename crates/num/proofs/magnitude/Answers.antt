@@ -17,12 +17,6 @@ returns-then-x-lt897 c =
     let d : Done at.x at.t c.nearest_shift.result = subst (Done at.x at.t) (sym e) (low_le at.t c.requires.1 at.x c.if-x-lt897.true, low at.t c.requires.1 at.x (omega arith) c.if-x-lt897.true) in
     record { upper_bound = d.0; bits_narrowed = d.1 }
 
-pub overflow_add-result : goal.overflow_add-result
-overflow_add-result c =
-    let at = c.args in
-    let e = c.nearest_shift-then-x-lt1151.ensures ∙ ap (λ (g : ℕ). closest g (2 ^ 29)) c.with_lead-g.ensures in
-    omega (arith, e, normal_le at.t c.requires.1 at.x c.if-x-lt897.false c.if-x-lt1151.true)
-
 pub returns-then-x-lt1151 : goal.returns-then-x-lt1151
 returns-then-x-lt1151 c =
     let at = c.args in

@@ -5,8 +5,8 @@ use mathlib.Core.Path.{◌≡◌}
 use Prim.Native.Nat.{◌≤◌, ◌-◌}
 use Rattle.number_list.proofs.check_text.Given as goal
 
-abbrev pub invariant-loop-check : goal.invariant-loop-check
-invariant-loop-check l = (l.n ≤ 1024) × (outcome_check (text_outcome (bytes_from l.s l.at l.len)) ≡ check_from l.s l.at l.len l.from l.before l.n l.ok)
+abbrev pub invariant-loop-next : goal.invariant-loop-next
+invariant-loop-next l = (l.walk.n ≤ 1024) × (outcome_check (text_outcome (bytes_from l.s l.at l.len)) ≡ check_from l.s l.at l.len l.walk.from l.walk.before l.walk.n l.walk.ok)
 
-abbrev pub decreases-loop-check : goal.decreases-loop-check
-decreases-loop-check l = l.len - l.from
+abbrev pub decreases-loop-next : goal.decreases-loop-next
+decreases-loop-next l = l.len - l.walk.from

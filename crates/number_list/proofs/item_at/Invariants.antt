@@ -1,12 +1,13 @@
-use Rattle.number_list.specs.Means.{text_from}
+use Rattle.number_list.specs.Means.{place_text}
 use Rattle.number_list.specs.Outcome.{typed_numbers}
-use Rattle.num.specs.Constants.{plus_zero}
-use lib.ListN.{get_or}
+use lib.ListN.{drop}
 use mathlib.Core.Path.{◌≡◌}
 use Rattle.number_list.proofs.item_at.Given as goal
 
-abbrev pub invariant-loop-left : goal.invariant-loop-left
-invariant-loop-left l = get_or (typed_numbers (text_from l.s l.at l.len 0)) l.i plus_zero ≡ get_or (typed_numbers (text_from l.s l.at l.len l.from)) l.left plus_zero
-
-abbrev pub decreases-loop-left : goal.decreases-loop-left
-decreases-loop-left l = l.left
+abbrev pub invariant-loop : goal.invariant-loop
+invariant-loop l =
+    record {
+      at : l.p.at ≡ l.fn.p.at;
+      len : l.p.len ≡ l.fn.p.len;
+      rest : typed_numbers (place_text l.s l.p) ≡ drop l.counter (typed_numbers (place_text l.s l.fn.p));
+    }

@@ -1,14 +1,11 @@
 -- The loop's invariant: the number's digits are those of what is left, and then what is written. The number left falls. Assumes nothing.
-use mathlib.Core.Path.{refl, sym}
-use mathlib.Core.List.{append-nil}
+use mathlib.Core.Path.{◌≡◌, ap, ◌∙◌}
+use Prim.Native.Nat.{ℕ, ◌+◌, ◌-◌}
 use native.Mathlib.Omega.{arith}
-use lib.ListN.{length-set}
-use Rattle.naming.specs.Names.{digits}
+use lib.ListN.{length, set, take, drop, length-set, length-drop}
+use lib.Seq.{take_all}
 use Rattle.results.proofs.Spelling.{more_room, digit_more, digit_last}
 use Rattle.results.proofs.digits_of.Goals as goal
-
-pub loop-n-init : goal.loop-n-init
-loop-n-init c = (omega arith, omega arith, omega arith, refl, sym (append-nil (digits c.args.k)))
 
 pub loop-n-preserved : goal.loop-n-preserved
 loop-n-preserved c =
@@ -24,8 +21,8 @@ loop-n-preserved c =
 pub returns : goal.returns
 returns c =
     let l = c.loop-n in
-    record {
-      exact = digit_last c.args.k l.n l.e l.buf l.invariant.4 (omega arith) (omega arith) c.loop-n-test.false;
-      within = omega arith;
-      long = simp length-set l.invariant.3;
-    }
+    let e = l.e - 1 in
+    let buf = set l.buf e (48 + l.n) in
+    let long : length (drop e buf) ≡ 10 - e = length-drop e buf ∙ ap (λ (n : ℕ). n - e) (length-set l.buf e (48 + l.n) ∙ l.invariant.3) in
+    let all : take (10 - e) (drop e buf) ≡ drop e buf = take_all (10 - e) (drop e buf) (omega arith) in
+    rw all (digit_last c.args.k l.n l.e l.buf l.invariant.4 (omega arith) (omega arith) c.loop-n-test.false, omega arith, omega arith)

@@ -1,34 +1,29 @@
 -- A first digit other than 0 is read on; 0 is a number by itself, and begins no other. Assumes nothing.
 use mathlib.Core.Path.{◌≡◌}
-use Prim.Native.Nat.{◌<◌}
 use native.Mathlib.Omega.{arith}
 use lib.ListN.{get_or}
 use Rattle.results.proofs.Numbers.{first_digit, first_other, zero_alone, zero_before}
 use Rattle.results.proofs.number_in.Goals as goal
 
-pub returns-then-first-gt9 : goal.returns-then-first-gt9
-returns-then-first-gt9 c =
+pub returns-in_err-first : goal.returns-in_err-first
+returns-in_err-first c =
     let a = c.args in
-    let d = c.digit_at-first in
-    first_other a.s.now a.from a.n d.result (omega arith) d.ensures c.if-first-gt9.true
+    rw c.from_residual.ensures (first_other a.s.now a.from a.n (omega arith) c.in_err-first.ensures)
 
 pub returns-then-first-gt0 : goal.returns-then-first-gt0
 returns-then-first-gt0 c =
     let a = c.args in
-    let d = c.digit_at-first in
-    let small : d.result < 10 = omega arith in
-    rw (first_digit a.s.now a.from a.n d.result (omega arith) small (d.ensures.digit small)) c.number_after.ensures
+    let d = c.in_ok-first in
+    rw (first_digit a.s.now a.from a.n d.first (omega arith) d.ensures.0 d.ensures.1) c.number_after.ensures
 
 pub returns-then-n-eq1 : goal.returns-then-n-eq1
 returns-then-n-eq1 c =
     let a = c.args in
-    let d = c.digit_at-first in
-    let e : get_or a.s.now a.from 0 ≡ 48 = omega (arith, d.ensures.digit (omega arith)) in
+    let e : get_or a.s.now a.from 0 ≡ 48 = omega (arith, c.in_ok-first.ensures) in
     zero_alone a.s.now a.from a.n c.if-n-eq1.true e
 
 pub returns-else-n-eq1 : goal.returns-else-n-eq1
 returns-else-n-eq1 c =
     let a = c.args in
-    let d = c.digit_at-first in
-    let e : get_or a.s.now a.from 0 ≡ 48 = omega (arith, d.ensures.digit (omega arith)) in
+    let e : get_or a.s.now a.from 0 ≡ 48 = omega (arith, c.in_ok-first.ensures) in
     zero_before a.s.now a.from a.n (omega arith) e

@@ -1,23 +1,11 @@
--- Invariant: the test of all numbers is the test of those that are left. Assumes nothing.
-use borrow.Author.Rules.{rules}
-use mathlib.Core.Path.{◌∙◌, sym}
-use native.Mathlib.Omega.{arith}
-use Rattle.sheet_check.proofs.Numbering.{singles_none, singles_step}
+-- The chain tests each number by its place in the list. Assumes nothing.
+use Rattle.std.proofs.Common.{rules, tests, arith, ◌∙◌}
+use Rattle.std.proofs.lemmas.Iterator.{YieldsList-from_range}
+use Rattle.std.proofs.lemmas.Iterator.Search.{all_from_yields_List}
+use Rattle.sheet_check.proofs.Numbering.{finite_at, singles_ranged}
 use Rattle.sheet_check.proofs.all_finite.Goals as goal
-
-pub returns-then-not-is_finite_at : goal.returns-then-not-is_finite_at
-returns-then-not-is_finite_at c =
-    let l = c.loop-left in
-    let s = c.args.s.now in
-    sym (l.invariant.1 ∙ singles_step s l.at l.left (omega arith) ∙ simp (sym c.is_finite_at.ensures ∙ c.if-not-is_finite_at.true))
-
-pub loop-left-preserved : goal.loop-left-preserved
-loop-left-preserved c =
-    let l = c.loop-left in
-    let s = c.args.s.now in
-    (search rules, l.invariant.1 ∙ singles_step s l.at l.left (omega arith) ∙ simp (sym c.is_finite_at.ensures ∙ c.if-not-is_finite_at.false))
 
 pub returns : goal.returns
 returns c =
-    let l = c.loop-left in
-    sym (l.invariant.1 ∙ singles_none c.args.s.now l.at l.left (omega arith))
+    let a = c.args in
+    all_from_yields_List (finite_at a.s.now a.from) _ _ _ c.all.ensures.ran (YieldsList-from_range 0 a.n a.n (cc) (omega arith)) (λ x b q k. search (rules, tests)) ∙ singles_ranged a.s.now a.from 0 a.n a.from (omega arith)

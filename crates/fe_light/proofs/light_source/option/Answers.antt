@@ -1,5 +1,0 @@
--- The arm is the definition's case. Assumes nothing.
-use Rattle.fe_light.proofs.light_source.option.Goals as goal
-
-pub returns-in-Is : goal.returns-in-Is
-returns-in-Is c = rw c.in-Is.is

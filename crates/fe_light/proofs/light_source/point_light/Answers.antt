@@ -1,5 +1,0 @@
--- Each number is what `number_or` ensures. Assumes nothing.
-use Rattle.fe_light.proofs.light_source.point_light.Goals as goal
-
-pub returns : goal.returns
-returns c = cc

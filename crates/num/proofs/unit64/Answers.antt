@@ -1,7 +1,0 @@
--- `num::unit64` meets its contract: 2 ^ d is below 2 ^ 64, so the shift drops nothing. Assumes nothing.
-use native.Mathlib.Nat.{one-mul, mod-eq_of_lt}
-use lib.Pow.{pow-lt}
-use Rattle.num.proofs.unit64.Goals as goal
-
-pub returns : goal.returns
-returns c = rw one-mul (mod-eq_of_lt (pow-lt c.requires))

@@ -1,7 +1,0 @@
--- The header's second length. Assumes nothing.
-use Rattle.svgtree.specs.Parse.{header_of}
-use Rattle.svgtree.proofs.header.filter_y.Goals as goal
-
-pub returns : goal.returns
-unfolding header_of
-returns c = cc
