@@ -29,7 +29,7 @@ impl From<Refusal> for u32 {
     }
 }
 
-// 0 and the length of what was written, or a refusal's number and 0.
+// 0 and the length of what was written, or a refusal's number and 0. Two numbers, and no Result: it is what C gets by value. Inside the library it is `Result<usize, Refusal>`.
 #[repr(C)]
 #[derive(Clone, Copy)]
 pub struct Answer {

@@ -2,7 +2,7 @@
 use Rattle.std.specs.Prelude.{ℕ, ◌+◌, ◌-◌, ◌≤◌, ◌<◌, ◌≡◌, true, T, List, [], Option, Some, None, Result, Ok, Err}
 use Rattle.svgtree.specs.Parse.{count_of, node_at, nodes_from}
 use Rattle.svgtree.specs.Means.{nodes_after}
-use Rattle.child.specs.Means.{child_is, merge_end}
+use Rattle.child.specs.Means.{child_is}
 use Rattle.region.specs.declared.Frame.{Frame}
 use Rattle.chain.specs.Chain as chain
 use Rattle.chain.specs.Chain.{Chain, kept, keep_first, step_of}
@@ -17,13 +17,6 @@ step_is s (Ok step.Pass) = chain.pass
 step_is s (Ok step.End) = chain.end
 step_is s (Ok (step.Count c)) = chain.count (child_is s c)
 step_is s (Err why) = chain.refused why
-
--- the node after the last that a child's kind reads its inputs from
-abbrev pub step_end : Result Step Refusal → ℕ
-step_end (Ok step.Pass) = 0
-step_end (Ok step.End) = 0
-step_end (Ok (step.Count c)) = merge_end c.kind
-step_end (Err why) = 0
 
 -- node i, with the nodes after it
 abbrev pub step_at : Frame → List ℕ → ℕ → chain.Step
@@ -47,7 +40,7 @@ next_is frame s (Ok (Some (j, c))) = keep_first (child_is s c) (chain_from frame
 abbrev pub NextAt : Frame → List ℕ → ℕ → Next → Type 0
 NextAt frame s start (Ok None) = T true
 NextAt frame s start (Err why) = T true
-NextAt frame s start (Ok (Some (j, c))) = (start ≤ j) × (j < count_of s) × (step_at frame s j ≡ chain.count (child_is s c)) × (merge_end c.kind ≤ 512)
+NextAt frame s start (Ok (Some (j, c))) = (start ≤ j) × (j < count_of s) × (step_at frame s j ≡ chain.count (child_is s c))
 
 -- what is said of the next child from node `start` on
 pub record NextChild (frame : Frame) (s : List ℕ) (start : ℕ) (r : Next) : Type 0 where

@@ -8,7 +8,7 @@ ghost use Rattle.svgtree.specs.Nodes.{node_of};
 ghost use Rattle.subregion.specs.Subregions.{region_of};
 ghost use Rattle.elements.specs.Means.{made_is, made_end};
 ghost use Rattle.chain.specs.Chain.{kind_step, region_step};
-ghost use Rattle.chain.specs.Means.{step_is, step_end, step_at, NextChild};
+ghost use Rattle.chain.specs.Means.{step_is, step_at, NextChild};
 
 use answer::Refusal;
 use child::Child;
@@ -17,10 +17,13 @@ use fe::color_interpolation::convert_color_interpolation;
 use geom::Rect;
 use names::aid;
 use region::Frame;
+use sheet::Sheet;
 use subregion::resolve_primitive_region;
 use svgtree::SvgNode;
 use svgtree::nodes::node_count;
 use svgtree::run::NodeRun;
+
+pub mod sheet;
 
 // What a node does to the chain of children, unless it refuses the sheet. No Option: to end the chain is more than to be passed over.
 #[derive(Clone, Copy)]
@@ -32,7 +35,8 @@ pub enum Step {
 
 // A child in its subregion, whatever it made.
 fn kind_step(node: SvgNode<'_>, rect: Rect, made: Made) -> Result<Step, Refusal>
-    ensures { (step_is node.entry.bytes.now result ≡ kind_step (node_of node.entry) rect (made_is node.entry.bytes.now made)) × (step_end result ≤ made_end made) }
+    requires { made_end made ≤ 512 }
+    ensures { step_is node.entry.bytes.now result ≡ kind_step (node_of node.entry) rect (made_is node.entry.bytes.now made) }
 {
     let Some(kind) = made? else {
         return Ok(Step::Pass); // no primitive is made of its tag
@@ -48,7 +52,7 @@ fn kind_step(node: SvgNode<'_>, rect: Rect, made: Made) -> Result<Step, Refusal>
 // The region decides before the kind. The kind is worked out first all the same: it is copied later, and need not be waited for then.
 fn region_step(node: SvgNode<'_>, i: u16, frame: Frame) -> Result<Step, Refusal>
     requires { count_of node.bytes.now ≤ 512 }
-    ensures { (step_is node.entry.bytes.now result ≡ region_step frame (node_of node.entry) (children_of node.entry.bytes.now i) (region_of frame (node_of node.entry))) × (step_end result ≤ 512) }
+    ensures { step_is node.entry.bytes.now result ≡ region_step frame (node_of node.entry) (children_of node.entry.bytes.now i) (region_of frame (node_of node.entry)) }
 {
     let made = kind_of(node, NodeRun::children(node.bytes, i), frame);
     match resolve_primitive_region(node, frame) {
@@ -57,25 +61,30 @@ fn region_step(node: SvgNode<'_>, i: u16, frame: Frame) -> Result<Step, Refusal>
     }
 }
 
+// A sheet and a frame stay two parameters: the frame may be another sheet's (`convert_children`), and no law joins them.
 #[tactic(auto, unfolding(crate::specs::Chain::step_of))]
-pub fn step_of(s: &[u8], i: u16, frame: Frame) -> Result<Step, Refusal>
-    requires { (i < count_of s.now) × (count_of s.now ≤ 512) }
-    ensures { (step_is s.now result ≡ step_at frame s.now i) × (step_end result ≤ 512) }
+pub fn step_of(sheet: Sheet<'_>, i: u16, frame: Frame) -> Result<Step, Refusal>
+    requires { i < count_of sheet.bytes.now }
+    ensures { step_is sheet.entry.bytes.now result ≡ step_at frame sheet.entry.bytes.now i }
 {
-    let node = SvgNode::get(s, i);
-    if node.depth() == 1 || node.tag_name() == 0 {
+    let node = SvgNode::get(sheet.bytes, i);
+    if node.depth() == 1 || !node.has_tag() {
         return Ok(Step::Pass);
     }
     region_step(node, i, frame)
 }
 
 // The next child that counts, with its node's number, unless the chain ends before one or is refused.
-pub fn next_child(s: &[u8], start: u16, frame: Frame) -> Result<Option<(u16, Child)>, Refusal>
-    requires { (start ≤ count_of s.now) × (count_of s.now ≤ 512) }
-    ensures { NextChild frame s.now start result }
+pub fn next_child(
+    sheet: Sheet<'_>,
+    start: u16,
+    frame: Frame,
+) -> Result<Option<(u16, Child)>, Refusal>
+    requires { start ≤ count_of sheet.bytes.now }
+    ensures { NextChild frame sheet.entry.bytes.now start result }
 {
-    for i in start..node_count(s) {
-        match step_of(s, i, frame)? {
+    for i in start..node_count(sheet.bytes) {
+        match step_of(sheet, i, frame)? {
             Step::Count(child) => return Ok(Some((i, child))),
             Step::End => return Ok(None),
             Step::Pass => {}

@@ -1,2 +1,3 @@
 pub mod Child
 pub mod Means
+pub mod Merges

@@ -1,5 +1,5 @@
 -- What the code's child and kind, whose texts are places in the sheet, stand for. Definitions only.
-use Rattle.std.specs.Prelude.{ℕ, ◌+◌, List, map, Option}
+use Rattle.std.specs.Prelude.{ℕ, List, map, Option}
 use Rattle.bits.specs.Texts.{maybe_text_is}
 use Rattle.svgtree.specs.Parse.{nodes_from}
 use Rattle.tree.specs.Input.{Name}
@@ -12,10 +12,10 @@ use Rattle.child.specs.declared.Child.{Child}
 use Rattle.child.specs.Child.{in_of}
 
 abbrev pub kind_is : List ℕ → Kind → spec.Kind (Option Name)
-kind_is s (kind.Blend v) = spec.Blend (maybe_text_is s v.input1) (maybe_text_is s v.input2) v.mode
-kind_is s (kind.ColorMatrix v) = spec.ColorMatrix (maybe_text_is s v.input) (color_matrix_kind_is s v.kind)
+kind_is s (kind.Blend v) = spec.Blend (maybe_text_is s v.input1) (maybe_text_is s v.input2) v.fields
+kind_is s (kind.ColorMatrix v) = spec.ColorMatrix (maybe_text_is s v.input) (color_matrix_kind_is s v.fields)
 kind_is s (kind.ComponentTransfer v) = spec.ComponentTransfer (maybe_text_is s v.input) (component_transfer_is s v.fields)
-kind_is s (kind.Composite v) = spec.Composite (maybe_text_is s v.input1) (maybe_text_is s v.input2) v.operator
+kind_is s (kind.Composite v) = spec.Composite (maybe_text_is s v.input1) (maybe_text_is s v.input2) v.fields
 kind_is s (kind.ConvolveMatrix v) = spec.ConvolveMatrix (maybe_text_is s v.input) (convolve_matrix_is s v.fields)
 kind_is s (kind.DiffuseLighting v) = spec.DiffuseLighting (maybe_text_is s v.input) v.fields
 kind_is s (kind.DisplacementMap v) = spec.DisplacementMap (maybe_text_is s v.input1) (maybe_text_is s v.input2) v.fields
@@ -37,22 +37,3 @@ child_is s c =
       own = maybe_text_is s c.result;
       kind = kind_is s c.kind;
     }
-
--- the number of the node after those that a Merge reads its inputs from
-abbrev pub merge_end : Kind → ℕ
-merge_end (kind.Blend v) = 0
-merge_end (kind.ColorMatrix v) = 0
-merge_end (kind.ComponentTransfer v) = 0
-merge_end (kind.Composite v) = 0
-merge_end (kind.ConvolveMatrix v) = 0
-merge_end (kind.DiffuseLighting v) = 0
-merge_end (kind.DisplacementMap v) = 0
-merge_end (kind.DropShadow v) = 0
-merge_end (kind.Flood v) = 0
-merge_end (kind.GaussianBlur v) = 0
-merge_end (kind.Merge v) = v.first + v.count
-merge_end (kind.Morphology v) = 0
-merge_end (kind.Offset v) = 0
-merge_end (kind.SpecularLighting v) = 0
-merge_end (kind.Tile v) = 0
-merge_end (kind.Turbulence v) = 0

@@ -2,120 +2,62 @@
 // worked out later, from the children that count.
 #![tactic(auto)]
 
+ghost use Rattle.std.specs.Prelude.{◌≤◌};
+ghost use Rattle.child.specs.Merges.{merge_end};
+
 use bits::Text;
 use geom::Rect;
-use tree::{BlendMode, ColorInterpolation, ColorMatrixKind, CompositeOperator};
+use tree::{
+    BlendMode, ColorInterpolation, ColorMatrixKind, ComponentTransfer, CompositeOperator,
+    ConvolveMatrix, DiffuseLighting, DisplacementMap, DropShadow, Flood, GaussianBlur, Morphology,
+    Offset, SpecularLighting, Turbulence,
+};
 
-// The kinds of tree/filter.rs: the inputs, each a text or its absence, and the other fields.
+// The structs of tree/filter.rs, by how many inputs they have: each input is a text or its absence, and the other fields are of a type of their own, `()` for Tile,
+// which has none. Two structs, and no one over `[Option<Text>; N]`: the source names the inputs, `input1` and `input2`, and an array would be taken apart by index where they are read.
 
 #[derive(Clone, Copy)]
-pub struct Blend {
+pub struct OneInput<T> {
+    pub input: Option<Text>,
+    pub fields: T,
+}
+
+#[derive(Clone, Copy)]
+pub struct TwoInputs<T> {
     pub input1: Option<Text>,
     pub input2: Option<Text>,
-    pub mode: BlendMode,
+    pub fields: T,
 }
 
-#[derive(Clone, Copy)]
-pub struct ColorMatrix {
-    pub input: Option<Text>,
-    pub kind: ColorMatrixKind,
-}
-
-#[derive(Clone, Copy)]
-pub struct ComponentTransfer {
-    pub input: Option<Text>,
-    pub fields: tree::ComponentTransfer,
-}
-
-#[derive(Clone, Copy)]
-pub struct Composite {
-    pub input1: Option<Text>,
-    pub input2: Option<Text>,
-    pub operator: CompositeOperator,
-}
-
-#[derive(Clone, Copy)]
-pub struct ConvolveMatrix {
-    pub input: Option<Text>,
-    pub fields: tree::ConvolveMatrix,
-}
-
-#[derive(Clone, Copy)]
-pub struct DiffuseLighting {
-    pub input: Option<Text>,
-    pub fields: tree::DiffuseLighting,
-}
-
-#[derive(Clone, Copy)]
-pub struct DisplacementMap {
-    pub input1: Option<Text>,
-    pub input2: Option<Text>,
-    pub fields: tree::DisplacementMap,
-}
-
-#[derive(Clone, Copy)]
-pub struct DropShadow {
-    pub input: Option<Text>,
-    pub fields: tree::DropShadow,
-}
-
-#[derive(Clone, Copy)]
-pub struct GaussianBlur {
-    pub input: Option<Text>,
-    pub fields: tree::GaussianBlur,
-}
-
-// The inputs are those of `count` nodes from node number `first` on.
+// The inputs are those of `count` nodes from node number `first` on. In place of the source's Vec, since there is no heap; no `NodeRun`, since a child holds no bytes of the sheet.
 #[derive(Clone, Copy)]
 pub struct Merge {
     pub first: u16,
     pub count: u16,
 }
 
-#[derive(Clone, Copy)]
-pub struct Morphology {
-    pub input: Option<Text>,
-    pub fields: tree::Morphology,
-}
-
-#[derive(Clone, Copy)]
-pub struct Offset {
-    pub input: Option<Text>,
-    pub fields: tree::Offset,
-}
-
-#[derive(Clone, Copy)]
-pub struct SpecularLighting {
-    pub input: Option<Text>,
-    pub fields: tree::SpecularLighting,
-}
-
-#[derive(Clone, Copy)]
-pub struct Tile {
-    pub input: Option<Text>,
-}
-
 // A sheet makes no Image.
 #[derive(Clone, Copy)]
 pub enum Kind {
-    Blend(Blend),
-    ColorMatrix(ColorMatrix),
-    ComponentTransfer(ComponentTransfer),
-    Composite(Composite),
-    ConvolveMatrix(ConvolveMatrix),
-    DiffuseLighting(DiffuseLighting),
-    DisplacementMap(DisplacementMap),
-    DropShadow(DropShadow),
-    Flood(tree::Flood),
-    GaussianBlur(GaussianBlur),
+    Blend(TwoInputs<BlendMode>),
+    ColorMatrix(OneInput<ColorMatrixKind>),
+    ComponentTransfer(OneInput<ComponentTransfer>),
+    Composite(TwoInputs<CompositeOperator>),
+    ConvolveMatrix(OneInput<ConvolveMatrix>),
+    DiffuseLighting(OneInput<DiffuseLighting>),
+    DisplacementMap(TwoInputs<DisplacementMap>),
+    DropShadow(OneInput<DropShadow>),
+    Flood(Flood),
+    GaussianBlur(OneInput<GaussianBlur>),
     Merge(Merge),
-    Morphology(Morphology),
-    Offset(Offset),
-    SpecularLighting(SpecularLighting),
-    Tile(Tile),
-    Turbulence(tree::Turbulence),
+    Morphology(OneInput<Morphology>),
+    Offset(OneInput<Offset>),
+    SpecularLighting(OneInput<SpecularLighting>),
+    Tile(OneInput<()>),
+    Turbulence(Turbulence),
 }
 
+// A sheet has 512 nodes at most, and a Merge reads its inputs from some of them (`few`): so a record's size has a bound.
 // The kind stands where nothing is left open before it: a copy of it then takes as many bytes at a time as the processor can hand on.
 #[derive(Clone, Copy)]
 pub struct Child {
@@ -123,4 +65,5 @@ pub struct Child {
     pub kind: Kind,
     pub color_interpolation: ColorInterpolation,
     pub result: Option<Text>,
+    pub ghost few: { merge_end kind ≤ 512 },
 }

@@ -2,10 +2,10 @@
 -- the list. Assumes nothing.
 use mathlib.Core.Path.{◌≡◌, refl, sym, ap, subst, ◌∙◌}
 use mathlib.Core.List.{List, [], ◌∷◌, ◌++◌, map}
-use Prim.Native.Nat.{ℕ, min, ◌+◌, ◌*◌, ◌≤◌, ◌<◌}
+use Prim.Native.Nat.{ℕ, ◌+◌, ◌*◌, ◌≤◌, ◌<◌}
 use native.Mathlib.Omega.{arith}
 use native.Mathlib.Nat.{zero-add}
-use lib.ListN.{length, take, drop, length-append, length-map, length-take}
+use lib.ListN.{length, take, drop, length-append, length-map}
 use lib.Seq.{length-take-le}
 use Rattle.answer.specs.Refusals.{refusal_number}
 use Rattle.answer.specs.Outcomes.{refused, given, Answers}
@@ -74,13 +74,8 @@ module _ {frame : Frame} {s nodes names table : List ℕ} {f : FilterResults} {s
   unfolding list_bytes
   list_parts = rw (counted, sizes, run) refl
 
-  sized : length (take f.count table) ≡ f.count
+  pub sized : length (take f.count table) ≡ f.count
   sized = ap length sizes ∙ length-map (primitives children) primitive_size ∙ counted
-
-  pub enough : f.count ≤ length table
-  enough =
-      let e : min f.count (length table) ≡ f.count = sym (length-take f.count table) ∙ sized in
-      omega arith
 
   pub list_length : length (list_of children) ≡ 2 + 8 * f.count + sum
   unfolding bytes16

@@ -8,8 +8,6 @@ use mathlib.Core.List.{List, [], ◌∷◌, ◌++◌}
 use lib.ListN.{length}
 use lib.Dec.{T, eqb}
 use lib.Ieee.Fits.{and_i, and_l, and_r}
-use Rattle.bits.specs.Bytes.{bytes_from}
-use Rattle.bits.proofs.Runs.{length-bytes_from}
 use Rattle.decimal.specs.Grammar.{TypedItem, is_digit, is_e, unsigned, negative, leading_digits, after_digits, power, scaled, plain, pointed, signed, item_of}
 use Rattle.decimal.specs.Means.{all_digits}
 
@@ -98,6 +96,3 @@ pub good_number : (w : List ℕ) → Good (length w) (item_of w)
 unfolding item_of
 good_number w =
     good_signed (length w) (negative w) (leading_digits (unsigned w)) (after_digits (unsigned w)) (digits_all (unsigned w)) (le_trans (past_short (unsigned w)) (unsigned_short w))
-
-pub good_at : (s : List ℕ) (at left : ℕ) → Good left (item_of (bytes_from s at left))
-good_at s at left = subst (λ (n : ℕ). Good n (item_of (bytes_from s at left))) (length-bytes_from s at left) (good_number (bytes_from s at left))

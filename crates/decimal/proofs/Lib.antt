@@ -11,3 +11,4 @@ pub mod Items
 pub mod Bounded
 pub mod Bounds
 pub mod Worth
+pub mod Windows

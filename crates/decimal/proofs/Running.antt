@@ -4,13 +4,14 @@ use native.Mathlib.Omega.{arith}
 use mathlib.Core.Path.{◌≡◌, refl, sym, ap, ◌∙◌, subst}
 use mathlib.Core.Bool.{true, false}
 use mathlib.Core.List.{List, [], ◌∷◌}
-use lib.ListN.{get_or, length}
+use native.Mathlib.Numerals.{add-one}
+use lib.ListN.{get_or, length, drop}
+use lib.Seq.{drop-cons}
+use Rattle.std.proofs.lemmas.List.{drop_all}
 use Rattle.std.specs.Char.{is_ascii_digit}
-use Rattle.bits.specs.Bytes.{bytes_from}
-use Rattle.bits.proofs.Runs.{bytes_from_step, bytes_from_none}
 use Rattle.decimal.specs.Grammar.{is_digit, leading_digits, after_digits}
 use Rattle.decimal.specs.Limits.{whole_from}
-use Rattle.decimal.specs.Means.{limit, DigitsAt}
+use Rattle.decimal.specs.Means.{limit, DigitsOf}
 
 -- a number that is held goes on as the number itself, up to the limit
 hold : (w d : ℕ) → min (w * 10 + d) limit ≡ min (min w limit * 10 + d) limit
@@ -32,67 +33,63 @@ pub digit_same : (b : ℕ) → is_ascii_digit b ≡ is_digit b
 unfolding is_digit
 digit_same b = refl
 
-module _ (s : List ℕ) (at n : ℕ) (h : 0 < n) where
-  digits_more : is_digit (get_or s at 0) ≡ true → leading_digits (bytes_from s at n) ≡ get_or s at 0 ∷ leading_digits (bytes_from s (at + 1) (n - 1))
+module _ (t : List ℕ) (k : ℕ) (h : k < length t) where
+  digits_more : is_digit (get_or t k 0) ≡ true → leading_digits (drop k t) ≡ get_or t k 0 ∷ leading_digits (drop (suc k) t)
   unfolding leading_digits
-  digits_more t = rw (bytes_from_step s at n h, t)
+  digits_more d = rw (drop-cons t k 0 h, d)
 
-  digits_stop : is_digit (get_or s at 0) ≡ false → leading_digits (bytes_from s at n) ≡ []
+  digits_stop : is_digit (get_or t k 0) ≡ false → leading_digits (drop k t) ≡ []
   unfolding leading_digits
-  digits_stop t = rw (bytes_from_step s at n h, t)
+  digits_stop d = rw (drop-cons t k 0 h, d)
 
-  past_more : is_digit (get_or s at 0) ≡ true → after_digits (bytes_from s at n) ≡ after_digits (bytes_from s (at + 1) (n - 1))
+  past_more : is_digit (get_or t k 0) ≡ true → after_digits (drop k t) ≡ after_digits (drop (suc k) t)
   unfolding after_digits
-  past_more t = rw (bytes_from_step s at n h, t)
+  past_more d = rw (drop-cons t k 0 h, d)
 
-  past_stop : is_digit (get_or s at 0) ≡ false → after_digits (bytes_from s at n) ≡ bytes_from s at n
+  past_stop : is_digit (get_or t k 0) ≡ false → after_digits (drop k t) ≡ drop k t
   unfolding after_digits
-  past_stop t = rw (bytes_from_step s at n h, t)
+  past_stop d = rw (drop-cons t k 0 h, d)
 
-digits_end : (s : List ℕ) (at n : ℕ) → n ≡ 0 → leading_digits (bytes_from s at n) ≡ []
+digits_end : leading_digits [] ≡ []
 unfolding leading_digits
-digits_end s at n z = rw (bytes_from_none s at n z)
+digits_end = refl
 
-past_end : (s : List ℕ) (at n : ℕ) → n ≡ 0 → after_digits (bytes_from s at n) ≡ bytes_from s at n
+past_end : after_digits [] ≡ []
 unfolding after_digits
-past_end s at n z = rw (bytes_from_none s at n z)
+past_end = refl
 
 -- k digits after w have been passed, and give the number v
-pub record Going (s : List ℕ) (at left w k v : ℕ) : Type 0 where
-  pub within : k ≤ left
+pub record Going (t : List ℕ) (w k v : ℕ) : Type 0 where
+  pub within : k ≤ length t
   pub low : v ≤ limit
-  pub many : length (leading_digits (bytes_from s at left)) ≡ k + length (leading_digits (bytes_from s (at + k) (left - k)))
-  pub number : min (whole_from w (leading_digits (bytes_from s at left))) limit ≡ min (whole_from v (leading_digits (bytes_from s (at + k) (left - k)))) limit
-  pub next : after_digits (bytes_from s at left) ≡ after_digits (bytes_from s (at + k) (left - k))
+  pub many : length (leading_digits t) ≡ k + length (leading_digits (drop k t))
+  pub number : min (whole_from w (leading_digits t)) limit ≡ min (whole_from v (leading_digits (drop k t))) limit
+  pub next : after_digits t ≡ after_digits (drop k t)
 
-module _ (s : List ℕ) (at left w k v : ℕ) (g : Going s at left w k v) where
-  pub going_step : (x : ℕ) → k < left → is_digit (get_or s (at + k) 0) ≡ true → x ≡ min (v * 10 + (get_or s (at + k) 0 - 48)) limit → Going s at left w (k + 1) x
+module _ (t : List ℕ) (w k v : ℕ) (g : Going t w k v) where
+  pub going_step : (x : ℕ) → k < length t → is_digit (get_or t k 0) ≡ true → x ≡ min (v * 10 + (get_or t k 0 - 48)) limit → Going t w (k + 1) x
   unfolding whole_from
-  going_step x h t e =
-      let p = at + k in
-      let l = left - k in
-      let o : 0 < l = omega arith in
-      let a : at + (k + 1) ≡ p + 1 = omega arith in
-      let b : left - (k + 1) ≡ l - 1 = omega arith in
-      let m : length (leading_digits (bytes_from s p l)) ≡ suc (length (leading_digits (bytes_from s (p + 1) (l - 1)))) = ap length (digits_more s p l o t) in
-      let n : length (leading_digits (bytes_from s at left)) ≡ k + 1 + length (leading_digits (bytes_from s (p + 1) (l - 1))) = omega (arith, g.many, m) in
+  going_step x h d e =
+      let a : k + 1 ≡ suc k = add-one k in
+      let m : length (leading_digits (drop k t)) ≡ suc (length (leading_digits (drop (suc k) t))) = ap length (digits_more t k h d) in
+      let n : length (leading_digits t) ≡ suc k + length (leading_digits (drop (suc k) t)) = omega (arith, g.many, m) in
       record {
         within = omega arith;
         low = omega (arith, e);
-        many = rw (a, b) n;
+        many = rw a n;
         number =
-            rw (a, b)
+            rw a
             (g.number
-            ∙ ap (λ (ds : List ℕ). min (whole_from v ds) limit) (digits_more s p l o t)
-            ∙ held_on (v * 10 + (get_or s p 0 - 48)) (leading_digits (bytes_from s (p + 1) (l - 1)))
-            ∙ ap (λ (z : ℕ). min (whole_from z (leading_digits (bytes_from s (p + 1) (l - 1)))) limit) (sym e));
-        next = rw (a, b) (g.next ∙ past_more s p l o t);
+            ∙ ap (λ (ds : List ℕ). min (whole_from v ds) limit) (digits_more t k h d)
+            ∙ held_on (v * 10 + (get_or t k 0 - 48)) (leading_digits (drop (suc k) t))
+            ∙ ap (λ (z : ℕ). min (whole_from z (leading_digits (drop (suc k) t))) limit) (sym e));
+        next = rw a (g.next ∙ past_more t k h d);
       }
 
-  done : leading_digits (bytes_from s (at + k) (left - k)) ≡ [] → after_digits (bytes_from s (at + k) (left - k)) ≡ bytes_from s (at + k) (left - k) → DigitsAt s at left w k v
+  done : leading_digits (drop k t) ≡ [] → after_digits (drop k t) ≡ drop k t → DigitsOf t w k v
   unfolding whole_from
   done d q =
-      let z : length (leading_digits (bytes_from s (at + k) (left - k))) ≡ 0 = ap length d in
+      let z : length (leading_digits (drop k t)) ≡ 0 = ap length d in
       let l = g.low in
       let h : min v limit ≡ v = omega arith in
       record {
@@ -103,11 +100,14 @@ module _ (s : List ℕ) (at left w k v : ℕ) (g : Going s at left w k v) where
         next = g.next ∙ q;
       }
 
-  pub going_stop : k < left → is_digit (get_or s (at + k) 0) ≡ false → DigitsAt s at left w k v
-  going_stop h t = let o : 0 < left - k = omega arith in done (digits_stop s (at + k) (left - k) o t) (past_stop s (at + k) (left - k) o t)
+  pub going_stop : k < length t → is_digit (get_or t k 0) ≡ false → DigitsOf t w k v
+  going_stop h d = done (digits_stop t k h d) (past_stop t k h d)
 
-  pub going_end : left ≤ k → DigitsAt s at left w left v
-  going_end h =
-      let z : left - k ≡ 0 = omega arith in
-      let e : k ≡ left = omega (arith, g.within) in
-      subst (λ (n : ℕ). DigitsAt s at left w n v) e (done (digits_end s (at + k) (left - k) z) (past_end s (at + k) (left - k) z))
+  pub going_end : (n : ℕ) → length t ≡ n → n ≤ k → DigitsOf t w n v
+  going_end n l h =
+      let z : drop k t ≡ [] = drop_all k t (omega arith) in
+      let e : k ≡ n = omega (arith, g.within) in
+      subst (λ (n : ℕ). DigitsOf t w n v) e (done (rw z digits_end) (rw z past_end))
+
+pub going_start : (t : List ℕ) (w : ℕ) → w ≤ limit → Going t w 0 w
+going_start t w h = record { within = omega arith; low = h; many = omega arith; number = refl; next = refl }

@@ -1,19 +1,19 @@
 -- The exponent and the end of an item's word: what the code reads there, and what the grammar says of it. Assumes nothing.
 use Rattle.decimal.specs.declared.Decimal.{Decimal}
 use Rattle.std.specs.Prelude.{None, Option, Some}
-use Prim.Native.Nat.{ℕ, ◌+◌, ◌-◌, ◌≤◌, ◌<◌, min}
+use Prim.Native.Nat.{ℕ, ◌≤◌, ◌<◌, min}
 use native.Mathlib.Nat.{suc-ne-zero, lt_irrefl}
 use native.Mathlib.Omega.{arith}
 use mathlib.Core.Path.{◌≡◌, refl, ap, ◌∙◌}
 use mathlib.Core.Bool.{Bool, true, false}
 use mathlib.Core.List.{List, [], ◌∷◌}
-use lib.ListN.{get_or, length}
-use Rattle.bits.specs.Bytes.{bytes_from}
-use Rattle.bits.proofs.Runs.{bytes_from_step, bytes_from_none, length-bytes_from}
-use Rattle.decimal.specs.Grammar.{is_e, negative, leading_digits, power, scaled}
+use lib.ListN.{length, drop}
+use Rattle.std.specs.List.{slice_get}
+use Rattle.std.proofs.Common.{length-drop}
+use Rattle.decimal.specs.Grammar.{is_e, unsigned, negative, leading_digits, power, scaled}
 use Rattle.decimal.specs.Limits.{whole, whole_from}
 use lib.IntN.{pos, ◌-ℤ◌}
-use Rattle.decimal.specs.Means.{limit, held_in, signed_exponent, DigitsAt, SignAt}
+use Rattle.decimal.specs.Means.{limit, held_in, signed_exponent, DigitsOf}
 
 module _ (m : Bool) (ds : List ℕ) (k : ℕ) (l : Bool) where
   power_none : (es rest : List ℕ) → length es ≡ 0 → power m ds k l es rest ≡ None
@@ -33,52 +33,46 @@ module _ (m : Bool) (ds : List ℕ) (k : ℕ) (l : Bool) where
   power_is (x ∷ es) [] h e = refl
   power_is (x ∷ es) (b ∷ t) h e = absurd (suc-ne-zero (length t) e)
 
+empty_is : (t : List ℕ) → slice_get t 0 ≡ None → t ≡ []
+empty_is [] e = refl
+empty_is (x ∷ t) e = cc
+
+first_is : (t : List ℕ) (b : ℕ) → slice_get t 0 ≡ Some b → t ≡ b ∷ drop 1 t
+first_is [] b e = cc
+first_is (x ∷ t) b e = let f : x ≡ b = cc in ap (λ (y : ℕ). y ∷ t) f
+
 -- a number's parts as the code has them
 abbrev pub parts : Bool → ℕ → ℕ → Bool → ℕ → Option Decimal
 parts m v k l e = Some (record { minus = m; digits = v; power = signed_exponent l e -ℤ pos k })
 
-module _ (s : List ℕ) (at left : ℕ) (m : Bool) (v k : ℕ) (ds : List ℕ) where
-  pub scale_end : left ≡ 0 → v ≡ min (whole ds) limit → parts m v k false 0 ≡ held_in (scaled m ds k (bytes_from s at left))
+module _ (t : List ℕ) (m : Bool) (v k : ℕ) (ds : List ℕ) where
+  pub scale_end : slice_get t 0 ≡ None → v ≡ min (whole ds) limit → parts m v k false 0 ≡ held_in (scaled m ds k t)
   unfolding scaled whole_from
-  scale_end z e = rw (bytes_from_none s at left z) (ap (λ (x : ℕ). parts m x k false 0) e)
+  scale_end z e = rw (empty_is t z) (ap (λ (x : ℕ). parts m x k false 0) e)
 
-  pub scale_other : 0 < left → is_e (get_or s at 0) ≡ false → None ≡ held_in (scaled m ds k (bytes_from s at left))
-  unfolding scaled
-  scale_other h t = rw (bytes_from_step s at left h, t)
+  module _ (b : ℕ) (f : slice_get t 0 ≡ Some b) where
+    pub scale_other : is_e b ≡ false → None ≡ held_in (scaled m ds k t)
+    unfolding scaled
+    scale_other h = rw (first_is t b f, h)
 
-  module _ (j n x : ℕ) (h : 0 < left) (t : is_e (get_or s at 0) ≡ true) (g : SignAt s (at + 1) (left - 1) j) (d : DigitsAt s (at + 1 + j) (left - 1 - j) 0 n x) where
-    es : List ℕ
-    es = leading_digits (bytes_from s (at + 1 + j) (left - 1 - j))
+    -- the exponent u after its sign, of which n digits are read
+    module _ (r u : List ℕ) (p : r ≡ drop 1 t) (q : u ≡ unsigned r) (n x : ℕ) (h : is_e b ≡ true) (d : DigitsOf u 0 n x) where
+      open_e : scaled m ds k t ≡ power m ds k (negative r) (leading_digits u) (drop n u)
+      unfolding scaled
+      open_e = rw (first_is t b f, h, ← p, ← q, d.next)
 
-    rest : List ℕ
-    rest = bytes_from s (at + 1 + j + n) (left - 1 - j - n)
+      pub scale_none : n ≡ 0 → None ≡ held_in (scaled m ds k t)
+      scale_none z = rw (open_e, power_none m ds k (negative r) (leading_digits u) (drop n u) (d.many ∙ z))
 
-    open_e : scaled m ds k (bytes_from s at left) ≡ power m ds k (negative (bytes_from s (at + 1) (left - 1))) es rest
-    unfolding scaled es rest
-    open_e = rw (bytes_from_step s at left h, t, g.next, d.next)
+      pub scale_more : n < length u → None ≡ held_in (scaled m ds k t)
+      scale_more z =
+          let o : 0 < length (drop n u) = omega (arith, length-drop n u) in
+          rw (open_e, power_more m ds k (negative r) (leading_digits u) (drop n u) o)
 
-    long : length rest ≡ left - 1 - j - n
-    unfolding rest
-    long = length-bytes_from s (at + 1 + j + n) (left - 1 - j - n)
-
-    many : length es ≡ n
-    unfolding es
-    many = d.many
-
-    pub scale_none : n ≡ 0 → None ≡ held_in (scaled m ds k (bytes_from s at left))
-    scale_none z = rw (open_e, power_none m ds k (negative (bytes_from s (at + 1) (left - 1))) es rest (many ∙ z))
-
-    pub scale_more : n < left - 1 - j → None ≡ held_in (scaled m ds k (bytes_from s at left))
-    scale_more z =
-        let p : 0 < length rest = omega (arith, long) in
-        rw (open_e, power_more m ds k (negative (bytes_from s (at + 1) (left - 1))) es rest p)
-
-    pub scale_is : (l : Bool) → 0 < n → left - 1 - j ≤ n → v ≡ min (whole ds) limit → l ≡ negative (bytes_from s (at + 1) (left - 1))
-        → parts m v k l x ≡ held_in (scaled m ds k (bytes_from s at left))
-    unfolding es
-    scale_is l z y e f =
-        let p : 0 < length es = omega (arith, many) in
-        let q : length rest ≡ 0 = omega (arith, long) in
-        rw (open_e, power_is m ds k (negative (bytes_from s (at + 1) (left - 1))) es rest p q)
-        (ap (λ (y : ℕ). parts m y k l x) e ∙ ap (λ (y : Bool). parts m (min (whole ds) limit) k y x) f
-        ∙ ap (λ (y : ℕ). parts m (min (whole ds) limit) k (negative (bytes_from s (at + 1) (left - 1))) y) d.number)
+      pub scale_is : (l : Bool) → 0 < n → length u ≤ n → v ≡ min (whole ds) limit → l ≡ negative r → parts m v k l x ≡ held_in (scaled m ds k t)
+      scale_is l z y e g =
+          let o : 0 < length (leading_digits u) = omega (arith, d.many) in
+          let w : length (drop n u) ≡ 0 = omega (arith, length-drop n u) in
+          rw (open_e, power_is m ds k (negative r) (leading_digits u) (drop n u) o w)
+          (ap (λ (y : ℕ). parts m y k l x) e ∙ ap (λ (y : Bool). parts m (min (whole ds) limit) k y x) g
+          ∙ ap (λ (y : ℕ). parts m (min (whole ds) limit) k (negative r) y) d.number)

@@ -17,7 +17,7 @@ use Rattle.num.specs.Narrowed.{narrowed, or_zero}
 use Rattle.num.proofs.Laws.{by_le}
 use Rattle.num.proofs.Finite.{or_zero_is}
 use mathlib.Core.List.{List}
-use Rattle.bits.specs.Bytes.{bytes_from}
+use lib.ListN.{length}
 use Rattle.decimal.specs.Grammar.{TypedItem, item_of}
 use Rattle.decimal.specs.Limits.{whole, digit_count, power_up, power_down, in_limits}
 use Rattle.decimal.specs.Value.{item_value, item_value_in}
@@ -26,7 +26,7 @@ use Rattle.decimal.specs.declared.Decimal.{Decimal}
 use Rattle.decimal.proofs.Bounds.{limited, value_rounded, value_finite}
 use Rattle.decimal.proofs.Counts.{count_is}
 use Rattle.decimal.proofs.Powers.{power_is}
-use Rattle.decimal.proofs.Items.{Good, good_at}
+use Rattle.decimal.proofs.Items.{Good, good_number}
 use Rattle.decimal.specs.declared.TextFault.TheVariants as fault
 
 -- ---- the limits
@@ -134,19 +134,19 @@ module _ (n : ℕ) (h : n ≤ 65535) where
       let f : d ≡ held_item i = cc in
       ap value_held f ∙ value_held_lem i g.0 (le_trans g.1 h)
 
--- the same of a word that stands at a place
-module _ (s : List ℕ) (at left : ℕ) (short : left < 65536) (d : Decimal) (e : Some d ≡ held_in (item_of (bytes_from s at left))) where
-  fits : left ≤ 65535
+-- the same of a word that is read
+module _ (t : List ℕ) (short : length t < 65536) (d : Decimal) (e : Some d ≡ held_in (item_of t)) where
+  fits : length t ≤ 65535
   fits = omega arith
 
-  word_at : cond (in_limits_held d) (Ok tt) (Err fault.OutsideLimits) ≡ item_check (item_of (bytes_from s at left))
-  word_at = word_some left fits _ d (good_at s at left) e
+  word_at : cond (in_limits_held d) (Ok tt) (Err fault.OutsideLimits) ≡ item_check (item_of t)
+  word_at = word_some (length t) fits _ d (good_number t) e
 
-  pub word_within : true ≡ in_limits_held d → Ok tt ≡ item_check (item_of (bytes_from s at left))
+  pub word_within : true ≡ in_limits_held d → Ok tt ≡ item_check (item_of t)
   word_within w = ap (λ (b : Bool). cond b (Ok tt) (Err fault.OutsideLimits)) w ∙ word_at
 
-  pub word_outside : false ≡ in_limits_held d → Err fault.OutsideLimits ≡ item_check (item_of (bytes_from s at left))
+  pub word_outside : false ≡ in_limits_held d → Err fault.OutsideLimits ≡ item_check (item_of t)
   word_outside w = ap (λ (b : Bool). cond b (Ok tt) (Err fault.OutsideLimits)) w ∙ word_at
 
-  pub value_at : value_held d ≡ item_value_in (item_of (bytes_from s at left))
-  value_at = value_some left fits _ d (good_at s at left) e
+  pub value_at : value_held d ≡ item_value_in (item_of t)
+  value_at = value_some (length t) fits _ d (good_number t) e

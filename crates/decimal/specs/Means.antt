@@ -1,12 +1,11 @@
 -- What the code keeps of a typed number: its digits and its exponent as whole numbers, held at 10 ^ 15. Definitions only.
 use Rattle.decimal.specs.declared.TextFault.{TextFault}
-use Rattle.std.specs.Prelude.{ℕ, suc, ℤ, pos, negsuc, neg_ℤ, ◌-ℤ◌, ◌≤◌, ◌+◌, ◌-◌, ◌*◌, ◌^◌, min, ◌≡◌, Bool, true, false, ◌&&◌, cond, List, [], ◌∷◌, length, eqb, ltb, leb, Float, Err, None, Ok, Option, Result, Some}
+use Rattle.std.specs.Prelude.{ℕ, suc, ℤ, pos, negsuc, neg_ℤ, ◌-ℤ◌, ◌≤◌, ◌*◌, ◌^◌, min, ◌≡◌, Bool, true, ◌&&◌, cond, List, [], ◌∷◌, length, drop, ltb, leb, Float, Err, None, Ok, Option, Result, Some}
 use Rattle.std.specs.Float.{binary64}
 use Rattle.std.specs.Float.Ieee.{round}
 use Rattle.num.specs.Constants.{plus_zero}
 use Rattle.num.specs.Narrowed.{narrowed, or_zero}
-use Rattle.bits.specs.Bytes.{bytes_from}
-use Rattle.decimal.specs.Grammar.{TypedItem, is_digit, leading_digits, after_digits, unsigned}
+use Rattle.decimal.specs.Grammar.{TypedItem, is_digit, leading_digits, after_digits}
 use Rattle.decimal.specs.Limits.{whole, whole_from, in_limits}
 use Rattle.decimal.specs.declared.Decimal.{Decimal}
 use Rattle.decimal.specs.declared.TextFault.TheVariants as fault
@@ -42,23 +41,13 @@ unfoldable pub all_digits : List ℕ → Bool
 all_digits [] = true
 all_digits (d ∷ ds) = is_digit d && all_digits ds
 
--- whether a point stands first
-unfoldable pub point : List ℕ → Bool
-point [] = false
-point (b ∷ t) = eqb b 46
-
--- n digits stand at a place, and no more; v is their number after w, held
-pub record DigitsAt (s : List ℕ) (at left w n v : ℕ) : Type 0 where
-  pub within : n ≤ left
-  pub many : length (leading_digits (bytes_from s at left)) ≡ n
+-- n digits stand first, and no more; v is their number after w, held
+pub record DigitsOf (t : List ℕ) (w n v : ℕ) : Type 0 where
+  pub within : n ≤ length t
+  pub many : length (leading_digits t) ≡ n
   pub low : v ≤ limit
-  pub number : v ≡ min (whole_from w (leading_digits (bytes_from s at left))) limit
-  pub next : after_digits (bytes_from s at left) ≡ bytes_from s (at + n) (left - n)
-
--- n bytes of a sign, 0 or 1, stand at a place
-pub record SignAt (s : List ℕ) (at left n : ℕ) : Type 0 where
-  pub within : n ≤ left
-  pub next : unsigned (bytes_from s at left) ≡ bytes_from s (at + n) (left - n)
+  pub number : v ≡ min (whole_from w (leading_digits t)) limit
+  pub next : after_digits t ≡ drop n t
 
 -- ---- the limits and the worth of an item that is kept so: the definitions of Limits.antt and Value.antt, on what is held
 

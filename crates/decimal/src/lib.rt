@@ -1,18 +1,20 @@
 // A number as it is typed: read from its bytes, and what it is worth.
 #![tactic(auto)]
 
-ghost use Rattle.std.specs.Prelude.{◌≡◌, List, ℕ, ◌+◌, ◌-◌, ◌*◌, ◌^◌, ◌≤◌, ◌<◌, min, length, pos, false, ◌-ℤ◌};
-ghost use Rattle.bits.specs.Bytes.{bytes_from};
-ghost use Rattle.decimal.specs.Grammar.{is_e, negative, leading_digits, after_digits, scaled, pointed, signed, item_of};
+ghost use Rattle.std.specs.Prelude.{◌≡◌, List, ℕ, ◌-◌, ◌*◌, ◌^◌, ◌+◌, ◌≤◌, ◌<◌, min, length, pos, true, false, ◌-ℤ◌};
+ghost use Rattle.decimal.specs.Grammar.{is_e, unsigned, leading_digits, after_digits, scaled, pointed, signed, item_of};
 ghost use Rattle.decimal.specs.Limits.{whole};
 ghost use Rattle.decimal.specs.Value.{item_value_in};
-ghost use Rattle.decimal.specs.Means.{limit, held_in, item_check, point, in_limits_held, value_held, raised, lowered, signed_exponent, DigitsAt, SignAt};
+ghost use Rattle.decimal.specs.Means.{limit, held_in, item_check, in_limits_held, double_held, value_held, signed_exponent, DigitsOf};
+ghost use Rattle.decimal.specs.Windows.{seen};
 ghost use Rattle.std.specs.Float.{binary64, fin};
-ghost use Rattle.std.specs.Float.Ieee.{round, to_bits};
+ghost use Rattle.std.specs.Float.Ieee.{to_bits};
 ghost use Rattle.std.specs.Float.Ieee.Exact.{HasValue};
 
-use bits::byte;
 use num::double_narrowed;
+use window::Window;
+
+pub mod window;
 
 // The least number of 16 digits: digits and exponents are held there.
 const LIMIT: u64 = 1000000000000000;
@@ -43,7 +45,7 @@ pub struct Run {
 fn is_e(b: u8) -> bool
     ensures { result ≡ is_e b }
 {
-    b == b'E' || b == b'e'
+    matches!(b, b'E' | b'e')
 }
 
 // A digit more, held.
@@ -54,45 +56,39 @@ fn grown(v: u64, b: u8) -> u64
     (v * 10 + u64::from(b - b'0')).min(LIMIT)
 }
 
-// A word is a place and how many bytes are left. No slices: a word may reach past the lent bytes, where zeros are read, and no caller has to rule that out.
-
-// The digits from a place on, after the number v.
-#[tactic(auto, using(crate::proofs::Running::digit_same, crate::proofs::Running::going_step, crate::proofs::Running::going_stop, crate::proofs::Running::going_end))]
-fn digit_run(s: &[u8], at: usize, left: usize, v: u64) -> Run
-    requires { (at + left < 2 ^ 40) × (v ≤ limit) }
-    ensures { DigitsAt s.now at left v result.len result.value }
+// The digits that stand first, after the number v.
+#[tactic(auto, using(crate::proofs::Running::digit_same, crate::proofs::Running::going_start, crate::proofs::Running::going_step, crate::proofs::Running::going_stop, crate::proofs::Running::going_end, crate::proofs::Windows::seen_length))]
+fn digit_run(text: Window<'_>, v: u64) -> Run
+    requires { v ≤ limit }
+    ensures within { result.len ≤ text.entry.len }
+    ensures digits { DigitsOf (seen text.entry) v result.len result.value }
 {
     let mut value = v;
-    for len in 0..left {
-        let b = byte(s, at + len);
+    for len in 0..text.len {
+        let b = text.get(len);
         if !b.is_ascii_digit() {
             return Run { len, value };
         }
         value = grown(value, b);
     }
-    Run { len: left, value }
-}
-
-// The length of a sign.
-#[tactic(auto, using(crate::proofs::Signs::sign_end, crate::proofs::Signs::sign_plus, crate::proofs::Signs::sign_minus, crate::proofs::Signs::sign_other))]
-fn sign_len(s: &[u8], at: usize, left: usize) -> usize
-    ensures { SignAt s.now at left result }
-{
-    if left == 0 {
-        return 0;
+    Run {
+        len: text.len,
+        value,
     }
-    let b = byte(s, at);
-    if b == b'+' || b == b'-' { 1 } else { 0 }
 }
 
-#[tactic(auto, using(crate::proofs::Signs::negative_end, crate::proofs::Signs::negative_first))]
-fn is_minus(s: &[u8], at: usize, left: usize) -> bool
-    ensures { result ≡ negative (bytes_from s.now at left) }
+// What follows a sign, if one stands first.
+#[tactic(auto, using(crate::proofs::Signs::sign_plus, crate::proofs::Signs::sign_minus, crate::proofs::Signs::sign_none, crate::proofs::Signs::sign_other, crate::proofs::Windows::some_first))]
+fn unsigned(text: Window<'_>) -> Window<'_>
+    ensures { seen result ≡ unsigned (seen text.entry) }
 {
-    0 < left && byte(s, at) == b'-'
+    match text.first() {
+        Some(b'+' | b'-') => text.behind(1),
+        _ => text,
+    }
 }
 
-// The power of ten: ± size - decimals.
+// The power of ten: ± size - decimals. `as`, since no From leads from u64 to i64; a held size is below 2 ^ 50.
 fn power(minus: bool, size: u64, decimals: u16) -> i64
     requires { size ≤ limit }
     ensures { result ≡ signed_exponent minus size -ℤ pos decimals }
@@ -102,99 +98,70 @@ fn power(minus: bool, size: u64, decimals: u16) -> i64
     signed - i64::from(decimals)
 }
 
-// The exponent, if there is one, and the end.
-#[tactic(auto, using(crate::proofs::Scales::scale_end, crate::proofs::Scales::scale_other, crate::proofs::Scales::scale_none, crate::proofs::Scales::scale_more, crate::proofs::Scales::scale_is))]
-fn scale(
-    s: &[u8],
-    at: usize,
-    left: usize,
-    minus: bool,
-    digits: u64,
-    decimals: u16,
-) -> Option<Decimal>
-    requires { at + left < 2 ^ 40 }
-    ensures { (ds : List ℕ) → digits ≡ min (whole ds) limit → result ≡ held_in (scaled minus ds decimals (bytes_from s.now at left)) }
+// The exponent, if there is one, and the end. The sign goes down with the digits, since the grammar's definition (`signed`, `pointed`, `scaled`) has it so.
+#[tactic(auto, using(crate::proofs::Scales::scale_end, crate::proofs::Scales::scale_other, crate::proofs::Scales::scale_none, crate::proofs::Scales::scale_more, crate::proofs::Scales::scale_is, crate::proofs::Windows::seen_length, crate::proofs::Windows::some_first))]
+fn scale(text: Window<'_>, minus: bool, digits: u64, decimals: u16) -> Option<Decimal>
+    ensures { (ds : List ℕ) → digits ≡ min (whole ds) limit → result ≡ held_in (scaled minus ds decimals (seen text.entry)) }
 {
-    if left == 0 {
+    let Some(b) = text.first() else {
         return Some(Decimal {
             minus,
             digits,
             power: power(false, 0, decimals),
         });
-    }
-    if !is_e(byte(s, at)) {
+    };
+    if !is_e(b) {
         return None;
     }
-    let k = sign_len(s, at + 1, left - 1);
-    let exponent_minus = is_minus(s, at + 1, left - 1);
-    let e = digit_run(s, at + 1 + k, left - 1 - k, 0);
-    if e.len == 0 {
-        return None;
-    }
-    if e.len < left - 1 - k {
+    let exponent = text.behind(1);
+    let size = unsigned(exponent);
+    let run = digit_run(size, 0);
+    if run.len == 0 || run.len < size.len {
         return None;
     }
     Some(Decimal {
         minus,
         digits,
-        power: power(exponent_minus, e.value, decimals),
+        power: power(exponent.starts_with(b'-'), run.value, decimals),
     })
 }
 
-// Whether a point stands first.
-#[tactic(auto, using(crate::proofs::Parts::point_end, crate::proofs::Parts::point_first))]
-fn is_point(s: &[u8], at: usize, left: usize) -> bool
-    ensures { result ≡ point (bytes_from s.now at left) }
-{
-    0 < left && byte(s, at) == b'.'
-}
-
-// What follows a point.
+// What follows a point. `as`, since no From leads from usize to u16; a window has fewer than 65,536 bytes.
 #[tactic(auto, using(crate::proofs::Parts::decimals_none, crate::proofs::Parts::decimals_value, crate::proofs::Parts::decimals_some))]
-fn decimals(s: &[u8], at: usize, left: usize, minus: bool, value: u64) -> Option<Decimal>
-    requires { (at + left < 2 ^ 40) × (left < 65536) × (value ≤ limit) }
-    ensures { (ds : List ℕ) → value ≡ min (whole ds) limit → result ≡ held_in (pointed minus ds (leading_digits (bytes_from s.now at left)) (after_digits (bytes_from s.now at left))) }
+fn decimals(text: Window<'_>, minus: bool, value: u64) -> Option<Decimal>
+    requires { value ≤ limit }
+    ensures { (ds : List ℕ) → value ≡ min (whole ds) limit → result ≡ held_in (pointed minus ds (leading_digits (seen text.entry)) (after_digits (seen text.entry))) }
 {
-    let f = digit_run(s, at, left, value);
-    let n = f.len;
-    if n == 0 {
+    let run = digit_run(text, value);
+    if run.len == 0 {
         return None;
     }
-    scale(s, at + n, left - n, minus, f.value, n as u16)
+    scale(text.behind(run.len), minus, run.value, run.len as u16)
 }
 
-// What follows the first digits, of which there are n.
-#[tactic(auto, using(crate::proofs::Parts::point_one, crate::proofs::Parts::after_point, crate::proofs::Parts::after_none, crate::proofs::Parts::after_plain))]
-fn after_digits(
-    s: &[u8],
-    at: usize,
-    left: usize,
-    minus: bool,
-    n: usize,
-    value: u64,
-) -> Option<Decimal>
-    requires { (at + left < 2 ^ 40) × (left < 65536) × (value ≤ limit) }
-    ensures { (ds : List ℕ) → n ≡ length ds → value ≡ min (whole ds) limit → result ≡ held_in (signed minus ds (bytes_from s.now at left)) }
+// What follows the first digits.
+#[tactic(auto, using(crate::proofs::Parts::after_point, crate::proofs::Parts::after_none, crate::proofs::Parts::after_plain, crate::proofs::Windows::some_start))]
+fn after_digits(text: Window<'_>, minus: bool, first: Run) -> Option<Decimal>
+    requires { first.value ≤ limit }
+    ensures { (ds : List ℕ) → first.len ≡ length ds → first.value ≡ min (whole ds) limit → result ≡ held_in (signed minus ds (seen text.entry)) }
 {
-    if is_point(s, at, left) {
-        return decimals(s, at + 1, left - 1, minus, value);
+    if text.starts_with(b'.') {
+        return decimals(text.behind(1), minus, first.value);
     }
-    if n == 0 {
+    if first.len == 0 {
         return None;
     }
-    scale(s, at, left, minus, value, 0)
+    scale(text, minus, first.value, 0)
 }
 
-// The number that a word is: the left bytes from a place on.
-fn decimal_at(s: &[u8], at: usize, left: usize) -> Option<Decimal>
-    requires { (at + left < 2 ^ 40) × (left < 65536) }
-    ensures { result ≡ held_in (item_of (bytes_from s.now at left)) }
+// The number that a word is.
+fn decimal_at(word: Window<'_>) -> Option<Decimal>
+    ensures { result ≡ held_in (item_of (seen word.entry)) }
 {
-    let k = sign_len(s, at, left);
-    let minus = is_minus(s, at, left);
-    let w = digit_run(s, at + k, left - k, 0);
-    let n = w.len;
-    after_digits(s, at + k + n, left - k - n, minus, n, w.value)
+    let minus = word.starts_with(b'-');
+    let text = unsigned(word);
+    let first = digit_run(text, 0);
+    after_digits(text.behind(first.len), minus, first)
 }
 
 // 10 ^ 0 to 10 ^ 22, each exact.
@@ -232,7 +199,7 @@ fn power_of_ten(p: u64) -> f64
     TENS[p as usize]
 }
 
-// ± n, exact.
+// ± n, exact. `as`, since no From leads from u64 to f64: below 2 ^ 53 nothing is lost.
 #[tactic(auto, using(crate::proofs::Tens::whole_plus, crate::proofs::Tens::whole_minus))]
 fn signed_double(minus: bool, n: u64) -> f64
     requires { n < limit }
@@ -242,23 +209,24 @@ fn signed_double(minus: bool, n: u64) -> f64
     if minus { -x } else { x }
 }
 
-// ± n * 10 ^ power, rounded once.
-fn double(minus: bool, n: u64, power: i64) -> f64
-    requires { (n < limit) × (raised power ≤ 22) × (lowered power ≤ 22) }
-    ensures { result ≡ round binary64 minus (n * 10 ^ raised power) (10 ^ lowered power) }
+// A number within the limits as an f64, rounded once.
+#[tactic(auto, using(crate::proofs::Held::held_within))]
+fn double(d: Decimal) -> f64
+    requires { in_limits_held d ≡ true }
+    ensures { result ≡ double_held d }
 {
-    let x = signed_double(minus, n);
-    let ten = power_of_ten(power.unsigned_abs());
-    if 0 <= power { x * ten } else { x / ten }
+    let x = signed_double(d.minus, d.digits);
+    let ten = power_of_ten(d.power.unsigned_abs());
+    if 0 <= d.power { x * ten } else { x / ten }
 }
 
-// The same, as the bits of the f64.
-#[tactic(auto, using(num::proofs::Laws::round_num))]
-fn double_bits(minus: bool, n: u64, power: i64) -> u64
-    requires { (n < limit) × (raised power ≤ 22) × (lowered power ≤ 22) }
-    ensures { result ≡ to_bits binary64 (round binary64 minus (n * 10 ^ raised power) (10 ^ lowered power)) }
+// The same, as its bits.
+#[tactic(auto, using(num::proofs::Laws::round_num), unfolding(crate::specs::Means::double_held))]
+fn double_bits(d: Decimal) -> u64
+    requires { in_limits_held d ≡ true }
+    ensures { result ≡ to_bits binary64 (double_held d) }
 {
-    f64::to_bits(double(minus, n, power))
+    f64::to_bits(double(d))
 }
 
 // At most 15 digits, and a power of ten from -22 to 22.
@@ -266,41 +234,37 @@ fn double_bits(minus: bool, n: u64, power: i64) -> u64
 fn in_limits(d: Decimal) -> bool
     ensures { result ≡ in_limits_held d }
 {
-    d.digits < LIMIT && -22 <= d.power && d.power <= 22
+    d.digits < LIMIT && (-22..=22).contains(&d.power)
 }
 
-// The number as an f32, 0 where it is outside the limits.
-#[tactic(auto, using(crate::proofs::Held::held_within, crate::proofs::Held::value_refused, crate::proofs::Held::value_is), unfolding(crate::specs::Means::double_held))]
+// The number as an f32. 0 and no None where it is outside the limits: the definition has +0 there (`item_value_in`), and a sheet with such a number is refused
+// before one is read.
+#[tactic(auto, using(crate::proofs::Held::value_refused, crate::proofs::Held::value_is))]
 fn decimal_value(d: Decimal) -> f32
     ensures { result ≡ value_held d }
 {
     if !in_limits(d) {
         return 0.0;
     }
-    double_narrowed(double_bits(d.minus, d.digits, d.power))
+    double_narrowed(double_bits(d))
 }
 
-// Whether a word of a text, the left bytes from a place on, is an item within the limits.
-#[tactic(auto, using(crate::proofs::Worth::word_within, crate::proofs::Worth::word_outside, crate::proofs::Worth::word_none))]
-pub fn check_word(s: &[u8], at: usize, left: usize) -> Result<(), TextFault>
-    requires { (at + left < 2 ^ 40) × (left < 65536) }
-    ensures { result ≡ item_check (item_of (bytes_from s.now at left)) }
+// Whether a word of a text is an item within the limits.
+#[tactic(auto, using(crate::proofs::Worth::word_within, crate::proofs::Worth::word_outside, crate::proofs::Worth::word_none, crate::proofs::Windows::seen_short))]
+pub fn check_word(word: Window<'_>) -> Result<(), TextFault>
+    ensures { result ≡ item_check (item_of (seen word.entry)) }
 {
-    match decimal_at(s, at, left) {
+    match decimal_at(word) {
         Some(d) if in_limits(d) => Ok(()),
         Some(_) => Err(TextFault::OutsideLimits),
         None => Err(TextFault::OutsideGrammar),
     }
 }
 
-// The number that it is, 0 where it is refused.
-#[tactic(auto, using(crate::proofs::Worth::value_at, crate::proofs::Worth::value_none))]
-pub fn word_value(s: &[u8], at: usize, left: usize) -> f32
-    requires { (at + left < 2 ^ 40) × (left < 65536) }
-    ensures { result ≡ item_value_in (item_of (bytes_from s.now at left)) }
+// The number that it is. 0 and no None where it is refused, as in `decimal_value`.
+#[tactic(auto, using(crate::proofs::Worth::value_at, crate::proofs::Worth::value_none, crate::proofs::Windows::seen_short))]
+pub fn word_value(word: Window<'_>) -> f32
+    ensures { result ≡ item_value_in (item_of (seen word.entry)) }
 {
-    match decimal_at(s, at, left) {
-        Some(d) => decimal_value(d),
-        None => 0.0,
-    }
+    decimal_at(word).map_or(0.0, decimal_value)
 }

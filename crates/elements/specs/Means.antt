@@ -2,7 +2,8 @@
 use Rattle.std.specs.Prelude.{ℕ, ◌≤◌, ◌≡◌, List, Option, Some, None, Result, Ok, Err}
 use Rattle.answer.specs.declared.Refusal.{Refusal}
 use Rattle.child.specs.declared.Kind.{Kind}
-use Rattle.child.specs.Means.{kind_is, merge_end}
+use Rattle.child.specs.Means.{kind_is}
+use Rattle.child.specs.Merges.{merge_end}
 use Rattle.elements.specs.Elements as element
 
 -- a kind, none where no primitive is made of the tag, or a refusal

@@ -2,6 +2,7 @@
 #![tactic(auto)]
 
 ghost use Rattle.std.specs.Prelude.{◌≡◌, map, ◌+◌};
+ghost use Rattle.bits.specs.Texts.{maybe_text_is};
 ghost use Rattle.svgtree.specs.Nodes.{node_of, nodes_of};
 ghost use Rattle.tree.specs.Kinds as spec;
 ghost use Rattle.child.specs.Child.{in_of};
@@ -24,11 +25,7 @@ ghost use Rattle.elements.specs.Elements.{convolve_made, diffuse_made, specular_
 ghost use Rattle.elements.specs.Means.{Makes};
 
 use answer::Refusal;
-use child::{
-    Blend, ColorMatrix, ComponentTransfer, Composite, ConvolveMatrix, DiffuseLighting,
-    DisplacementMap, DropShadow, GaussianBlur, Kind, Merge, Morphology, Offset, SpecularLighting,
-    Tile,
-};
+use child::{Kind, Merge, OneInput, TwoInputs};
 use fe_blur::drop_shadow::convert_drop_shadow;
 use fe_blur::gaussian_blur::convert_gaussian_blur;
 use fe_blur::offset::convert_offset;
@@ -53,68 +50,75 @@ use svgtree::run::NodeRun;
 // What an element gives: a kind, none where no primitive is made of its tag, or a refusal.
 pub type Made = Result<Option<Kind>, Refusal>;
 
-// The kinds, one by one, inputs as they are read.
+// The inputs, as they are read, with the other fields.
+
+#[inline]
+fn with_input<T>(node: SvgNode<'_>, fields: T) -> OneInput<T>
+    ensures input { maybe_text_is node.entry.bytes.now result.input ≡ in_of (node_of node.entry) }
+    ensures rest { result.fields ≡ fields }
+{
+    OneInput {
+        input: node.attribute(aid::IN),
+        fields,
+    }
+}
+
+#[inline]
+fn with_inputs<T>(node: SvgNode<'_>, fields: T) -> TwoInputs<T>
+    ensures first { maybe_text_is node.entry.bytes.now result.input1 ≡ in_of (node_of node.entry) }
+    ensures second { maybe_text_is node.entry.bytes.now result.input2 ≡ in2_of (node_of node.entry) }
+    ensures rest { result.fields ≡ fields }
+{
+    TwoInputs {
+        input1: node.attribute(aid::IN),
+        input2: node.attribute(aid::IN2),
+        fields,
+    }
+}
+
+// The kinds, a function for each element as in the source. They differ in the function that reads the fields and in the variant that holds them: a generic one
+// would take both as closures, and its contract would say no more than those two calls.
 
 fn make_blend(node: SvgNode<'_>) -> Made
     ensures { Makes node.entry.bytes.now result (element.made (spec.Blend (in_of (node_of node.entry)) (in2_of (node_of node.entry)) (mode_of (node_of node.entry)))) 0 }
 {
-    let mode = convert_blend(node);
-    Ok(Some(Kind::Blend(Blend {
-        input1: node.attribute(aid::IN),
-        input2: node.attribute(aid::IN2),
-        mode,
-    })))
+    let fields = convert_blend(node);
+    Ok(Some(Kind::Blend(with_inputs(node, fields))))
 }
 
 fn make_composite(node: SvgNode<'_>) -> Made
     ensures { Makes node.entry.bytes.now result (element.made (spec.Composite (in_of (node_of node.entry)) (in2_of (node_of node.entry)) (composite_operator_of (node_of node.entry)))) 0 }
 {
-    let operator = convert_composite(node);
-    Ok(Some(Kind::Composite(Composite {
-        input1: node.attribute(aid::IN),
-        input2: node.attribute(aid::IN2),
-        operator,
-    })))
+    let fields = convert_composite(node);
+    Ok(Some(Kind::Composite(with_inputs(node, fields))))
 }
 
 fn make_color_matrix(node: SvgNode<'_>) -> Made
     ensures { Makes node.entry.bytes.now result (element.made (spec.ColorMatrix (in_of (node_of node.entry)) (color_matrix_kind_of (node_of node.entry)))) 0 }
 {
-    let kind = convert_color_matrix_kind(node);
-    Ok(Some(Kind::ColorMatrix(ColorMatrix {
-        input: node.attribute(aid::IN),
-        kind,
-    })))
+    let fields = convert_color_matrix_kind(node);
+    Ok(Some(Kind::ColorMatrix(with_input(node, fields))))
 }
 
 fn make_drop_shadow(node: SvgNode<'_>, scale: Size) -> Made
     ensures { Makes node.entry.bytes.now result (element.made (spec.DropShadow (in_of (node_of node.entry)) (drop_shadow_of (node_of node.entry) scale))) 0 }
 {
     let fields = convert_drop_shadow(node, scale);
-    Ok(Some(Kind::DropShadow(DropShadow {
-        input: node.attribute(aid::IN),
-        fields,
-    })))
+    Ok(Some(Kind::DropShadow(with_input(node, fields))))
 }
 
 fn make_gaussian_blur(node: SvgNode<'_>, scale: Size) -> Made
     ensures { Makes node.entry.bytes.now result (element.made (spec.GaussianBlur (in_of (node_of node.entry)) (gaussian_blur_of (node_of node.entry) scale))) 0 }
 {
     let fields = convert_gaussian_blur(node, scale);
-    Ok(Some(Kind::GaussianBlur(GaussianBlur {
-        input: node.attribute(aid::IN),
-        fields,
-    })))
+    Ok(Some(Kind::GaussianBlur(with_input(node, fields))))
 }
 
 fn make_offset(node: SvgNode<'_>, scale: Size) -> Made
     ensures { Makes node.entry.bytes.now result (element.made (spec.Offset (in_of (node_of node.entry)) (offset_fields_of (node_of node.entry) scale))) 0 }
 {
     let fields = convert_offset(node, scale);
-    Ok(Some(Kind::Offset(Offset {
-        input: node.attribute(aid::IN),
-        fields,
-    })))
+    Ok(Some(Kind::Offset(with_input(node, fields))))
 }
 
 fn make_flood(node: SvgNode<'_>) -> Made
@@ -126,9 +130,7 @@ fn make_flood(node: SvgNode<'_>) -> Made
 fn make_tile(node: SvgNode<'_>) -> Made
     ensures { Makes node.entry.bytes.now result (element.made (spec.Tile (in_of (node_of node.entry)))) 0 }
 {
-    Ok(Some(Kind::Tile(Tile {
-        input: node.attribute(aid::IN),
-    })))
+    Ok(Some(Kind::Tile(with_input(node, ()))))
 }
 
 fn make_component_transfer(node: SvgNode<'_>, children: NodeRun<'_>) -> Made
@@ -136,10 +138,7 @@ fn make_component_transfer(node: SvgNode<'_>, children: NodeRun<'_>) -> Made
     ensures { Makes node.entry.bytes.now result (element.made (spec.ComponentTransfer (in_of (node_of node.entry)) (component_transfer_of (nodes_of children.entry)))) 0 }
 {
     let fields = convert_component_transfer(children);
-    Ok(Some(Kind::ComponentTransfer(ComponentTransfer {
-        input: node.attribute(aid::IN),
-        fields,
-    })))
+    Ok(Some(Kind::ComponentTransfer(with_input(node, fields))))
 }
 
 fn make_merge(children: NodeRun<'_>) -> Made
@@ -161,12 +160,7 @@ fn make_convolve_matrix(node: SvgNode<'_>) -> Made
     ensures { Makes node.entry.bytes.now result (convolve_made (node_of node.entry) (convolve_matrix_of (node_of node.entry))) 0 }
 {
     match convert_convolve_matrix(node) {
-        Some(fields) => {
-            Ok(Some(Kind::ConvolveMatrix(ConvolveMatrix {
-                input: node.attribute(aid::IN),
-                fields,
-            })))
-        }
+        Some(fields) => { Ok(Some(Kind::ConvolveMatrix(with_input(node, fields)))) }
         None => dummy(node.bytes),
     }
 }
@@ -175,12 +169,7 @@ fn make_diffuse_lighting(node: SvgNode<'_>, children: NodeRun<'_>) -> Made
     ensures { Makes node.entry.bytes.now result (diffuse_made (node_of node.entry) (diffuse_lighting_of (node_of node.entry) (nodes_of children.entry))) 0 }
 {
     match convert_diffuse_lighting(node, children) {
-        Some(fields) => {
-            Ok(Some(Kind::DiffuseLighting(DiffuseLighting {
-                input: node.attribute(aid::IN),
-                fields,
-            })))
-        }
+        Some(fields) => { Ok(Some(Kind::DiffuseLighting(with_input(node, fields)))) }
         None => dummy(node.bytes),
     }
 }
@@ -189,12 +178,7 @@ fn make_specular_lighting(node: SvgNode<'_>, children: NodeRun<'_>) -> Made
     ensures { Makes node.entry.bytes.now result (specular_made (node_of node.entry) (specular_lighting_of (node_of node.entry) (nodes_of children.entry))) 0 }
 {
     match convert_specular_lighting(node, children) {
-        Some(fields) => {
-            Ok(Some(Kind::SpecularLighting(SpecularLighting {
-                input: node.attribute(aid::IN),
-                fields,
-            })))
-        }
+        Some(fields) => { Ok(Some(Kind::SpecularLighting(with_input(node, fields)))) }
         None => dummy(node.bytes),
     }
 }
@@ -203,21 +187,14 @@ fn make_morphology(node: SvgNode<'_>, scale: Size) -> Made
     ensures { Makes node.entry.bytes.now result (morphology_made (node_of node.entry) (morphology_of (node_of node.entry) scale)) 0 }
 {
     let fields = convert_morphology(node, scale)?;
-    Ok(Some(Kind::Morphology(Morphology {
-        input: node.attribute(aid::IN),
-        fields,
-    })))
+    Ok(Some(Kind::Morphology(with_input(node, fields))))
 }
 
 fn make_displacement_map(node: SvgNode<'_>, scale: Size) -> Made
     ensures { Makes node.entry.bytes.now result (displacement_made (node_of node.entry) (displacement_map_of (node_of node.entry) scale)) 0 }
 {
     let fields = convert_displacement_map(node, scale)?;
-    Ok(Some(Kind::DisplacementMap(DisplacementMap {
-        input1: node.attribute(aid::IN),
-        input2: node.attribute(aid::IN2), // the map
-        fields,
-    })))
+    Ok(Some(Kind::DisplacementMap(with_inputs(node, fields))))
 }
 
 fn make_turbulence(node: SvgNode<'_>) -> Made
@@ -227,7 +204,8 @@ fn make_turbulence(node: SvgNode<'_>) -> Made
     Ok(Some(Kind::Turbulence(fields)))
 }
 
-// What a node of the sheet gives, by its tag. A match and no table of functions: they take the node, its children and the scale as each needs them.
+// What a node of the sheet gives, by its tag. A match and no table of functions: they take the node, its children and the scale as each needs them. A node's children
+// stand beside it: an `SvgNode` is an offset and does not know its number, from which its children are counted.
 #[tactic(auto, unfolding(crate::specs::Elements::by_tag, crate::specs::Elements::kind_of))]
 pub fn kind_of(node: SvgNode<'_>, children: NodeRun<'_>, frame: Frame) -> Made
     requires { node.bytes ≡ children.bytes }

@@ -1,39 +1,15 @@
--- The pair that a list gives, by its length, and what holds of its numbers. Assumes nothing.
+-- What holds of the numbers of the pair that a list gives. Assumes nothing.
 use Rattle.std.specs.Prelude.{None, Option, Some}
-use mathlib.Core.Path.{◌≡◌, refl}
 use mathlib.Core.List.{List, [], ◌∷◌}
-use native.Mathlib.Omega.{arith}
 use mathlib.Core.Bool.{Bool, true, false, cond, ◌&&◌}
 use lib.Dec.{T}
-use lib.ListN.{length, get_or}
 use lib.Ieee.{Float}
 use lib.Ieee.Fits.{and_l, and_r}
 use Rattle.num.specs.Constants.{plus_zero}
 use Rattle.num.specs.Numbers.{Each}
 use Rattle.num.specs.Sign.{positive}
 use Rattle.fe.specs.declared.pair.Pair.{Pair}
-use Rattle.fe.specs.Pairs.{pair_of, pair_in, if_positive}
-
-pub of_one : (xs : List Float) → length xs ≡ 1 → pair_of (get_or xs 0 plus_zero) (get_or xs 0 plus_zero) ≡ pair_in xs
-unfolding pair_in
-of_one [] e = let z : ⊥ = omega arith in absurd z
-of_one (x ∷ []) e = refl
-of_one (x ∷ y ∷ []) e = let z : ⊥ = omega arith in absurd z
-of_one (x ∷ y ∷ w ∷ rest) e = let z : ⊥ = omega arith in absurd z
-
-pub of_two : (xs : List Float) → length xs ≡ 2 → pair_of (get_or xs 0 plus_zero) (get_or xs 1 plus_zero) ≡ pair_in xs
-unfolding pair_in
-of_two [] e = let z : ⊥ = omega arith in absurd z
-of_two (x ∷ []) e = let z : ⊥ = omega arith in absurd z
-of_two (x ∷ y ∷ []) e = refl
-of_two (x ∷ y ∷ w ∷ rest) e = let z : ⊥ = omega arith in absurd z
-
-pub of_others : (xs : List Float) → (length xs ≡ 1 → ⊥) → (length xs ≡ 2 → ⊥) → pair_of plus_zero plus_zero ≡ pair_in xs
-unfolding pair_in
-of_others [] f g = refl
-of_others (x ∷ []) f g = absurd (f refl)
-of_others (x ∷ y ∷ []) f g = absurd (g refl)
-of_others (x ∷ y ∷ w ∷ rest) f g = refl
+use Rattle.fe.specs.Pairs.{pair_in, if_positive}
 
 -- what holds of +0 and of each number of a list holds of both numbers of the pair
 pub pair_holds : (P : Float → Type 0) → P plus_zero → (xs : List Float) → Each P xs → P (pair_in xs).x × P (pair_in xs).y

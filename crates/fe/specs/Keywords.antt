@@ -4,12 +4,15 @@ use Prim.Native.String.{String}
 use Rattle.bits.specs.Words.{word}
 use Rattle.fe.specs.Attributes.{is_word}
 
+-- a keyword's bytes and what it stands for
+abbrev pub Keyword : Type 0 → Type 0
+Keyword A = List ℕ × A
+
 infix 70 ◌means◌
--- a keyword and what it stands for
-pub data Keyword (A : Type 0) : Type 0 where
-  ◌means◌ : String → A → Keyword A
+abbrev pub ◌means◌ : {A : Type 0} → String → A → Keyword A
+w means v = (word w, v)
 
 -- what the keyword stands for that the text is; the default where the text is absent or none of the keywords
 unfoldable pub keyword : {A : Type 0} → List (Keyword A) → A → Option (List ℕ) → A
 keyword [] default t = default
-keyword (w means v ∷ ks) default t = cond (is_word t (word w)) v (keyword ks default t)
+keyword (k ∷ ks) default t = cond (is_word t k.0) k.1 (keyword ks default t)

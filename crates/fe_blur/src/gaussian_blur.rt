@@ -7,7 +7,7 @@ ghost use Rattle.fe_blur.specs.GaussianBlur.{numbers_tried, numbers_or_default, 
 use fe::pair::Pair;
 use geom::Size;
 use names::aid;
-use num::{double_narrowed, is_positive};
+use num::{double_narrowed, positive};
 use svgtree::{SvgNode, Tries};
 use tree::GaussianBlur;
 
@@ -17,7 +17,7 @@ fn tried_numbers(t: Tries) -> Pair
     ensures { result ≡ numbers_tried (try_is t.first) (try_is t.second) (try_is t.third) }
 {
     let (Some(a), None) = (t.first, t.third) else {
-        return Pair { x: 0.0, y: 0.0 };
+        return Pair::ZERO;
     };
     let x = double_narrowed(a);
     Pair {
@@ -36,12 +36,11 @@ fn numbers_or_default(t: Option<Tries>, default: f32) -> Pair
 }
 
 // Scaled first, compared then.
-#[tactic(auto, unfolding(crate::specs::GaussianBlur::deviation))]
+#[tactic(auto, using(num::proofs::Defaults::positive_or), unfolding(crate::specs::GaussianBlur::deviation))]
 fn scaled_deviation(n: f32, scale: f32) -> f32
     ensures { result ≡ deviation n scale }
 {
-    let d = n * scale;
-    if is_positive(d) { d } else { 0.0 }
+    positive(n * scale).unwrap_or(0.0)
 }
 
 // `default` stands for both numbers where the attribute is absent.

@@ -118,9 +118,7 @@ module _ (P : Float → Type 0) (zero-holds : P plus_zero) (one-Holds : P one) w
     pub operator_holds : Each P (operator_numbers (composite_operator_of n))
     operator_holds =
         keyword_holds (λ (o : CompositeOperator). Each P (operator_numbers o)) _ Over (text_of n aid_operator)
-        (tt and tt and tt and tt and tt
-        and (zero_or aid_k1 and zero_or aid_k2 and zero_or aid_k3 and zero_or aid_k4 and tt)
-        and tt)
+        ((zero_or aid_k1 and zero_or aid_k2 and zero_or aid_k3 and zero_or aid_k4 and tt) and tt and tt and tt and tt and tt and tt)
         tt
 
   pub component_transfer_holds : (children : List Node) → Each (NodeHolds P) children → Each P (component_transfer_numbers (component_transfer_of children))

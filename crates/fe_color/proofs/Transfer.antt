@@ -1,22 +1,21 @@
 -- The functions of feComponentTransfer, child after child: what one child changes, and that looking at the children one by one gives what
 -- the specification says of all of them. Assumes nothing.
 use Rattle.std.specs.Prelude.{None, Option, Some}
-use Rattle.std.specs.Iterator.{Drains}
+use Rattle.std.specs.Iterator.{Drains, YieldsFirst}
 use Rattle.std.specs.List.{FoldsTo}
-use Rattle.std.proofs.iter.Yields.{nat_range_steps}
+use Rattle.std.proofs.lemmas.Iterator.Consumers.{YieldsList-from_first}
 use Rattle.std.proofs.lemmas.Fn.{fold_over}
 use denote.Param.Members.{Mut, Called}
-use Prim.Native.Nat.{ℕ, ◌+◌}
-use native.Mathlib.Omega.{arith}
-use native.Mathlib.Nat.{add-zero}
-use mathlib.Core.Path.{◌≡◌, refl, sym, ap, ◌∙◌}
+use denote.Ref.{Bor}
+use Prim.Native.Nat.{ℕ, zero, suc, ◌+◌}
+use mathlib.Core.Path.{◌≡◌, refl, sym, ap, subst, ◌∙◌}
 use mathlib.Core.Bool.{Bool, true, false, cond}
-use mathlib.Core.List.{List, [], ◌∷◌, ◌++◌, append_assoc}
+use mathlib.Core.List.{List, [], ◌∷◌, ◌++◌, map, map-append, append_assoc}
 use lib.Dec.{eqb}
 use Rattle.names.specs.Ids.{eid_fe_func_r, eid_fe_func_g, eid_fe_func_b, eid_fe_func_a}
 use Rattle.svgtree.specs.Values.{Node}
-use Rattle.svgtree.specs.Parse.{nodes_from, node_at}
-use Rattle.svgtree.proofs.Following.{nodes_by_number}
+use Rattle.svgtree.specs.declared.SvgNode.{SvgNode}
+use Rattle.svgtree.specs.Nodes.{node_of, handles_from}
 use Rattle.tree.specs.Kinds as spec
 use Rattle.tree.specs.Means.{transfer_function_is, component_transfer_is}
 use Rattle.tree.specs.declared.TransferFunction.{TransferFunction}
@@ -87,15 +86,41 @@ transfer_more v ns n =
     (last_more v.func_b eid_fe_func_b ns n)
     (last_more v.func_a eid_fe_func_a ns n)
 
--- a fold over the numbers below n whose closure looks at the node so many after node i
-module _ {F : Type 0} {g : Mut F (ComponentTransfer × (ℕ × Unit {0})) ComponentTransfer} (f : F) (s : List ℕ) (i n : ℕ)
-    (call : (v : ComponentTransfer) (k : ℕ) (w : ComponentTransfer) (h : F) → Called g f (v, (k, tt)) w h
-    → (component_transfer_is s w ≡ transfer_from (component_transfer_is s v) (node_at s (i + k) ∷ [])) × (h ≡ f)) where
-  pub fold_is : (v r : ComponentTransfer)
-      → (xs : List ℕ) × (h : F) × Drains nat_range_steps (record { start = 0; end = n }) xs × FoldsTo {P = F × ComponentTransfer} (λ p x q. Called g p.0 (p.1, (x, tt)) q.1 q.0) (f, v) xs (h, r)
-      → component_transfer_is s r ≡ transfer_from (component_transfer_is s v) (nodes_from s i n)
+-- nodes of one sheet
+abbrev pub OfSheet : Bor (List ℕ) → List SvgNode → Type 0
+OfSheet bytes [] = Unit {0}
+OfSheet bytes (n ∷ ns) = (n.bytes ≡ bytes) × OfSheet bytes ns
+
+module _ (bytes : Bor (List ℕ)) where
+  pub handles_in : (i n : ℕ) → OfSheet bytes (handles_from bytes i n)
+  unfolding handles_from
+  handles_in i zero = tt
+  handles_in i (suc n) = (refl, handles_in (i + 1) n)
+
+  -- of nodes and one more, each
+  apart : (ns : List SvgNode) (n : SvgNode) → OfSheet bytes (ns ++ (n ∷ [])) → OfSheet bytes ns × (n.bytes ≡ bytes)
+  apart [] n h = (tt, h.0)
+  apart (m ∷ ns) n h = let r = apart ns n h.1 in ((h.0, r.0), r.1)
+
+-- a fold over nodes whose closure looks at each
+module _ {F : Type 0} {g : Mut F (ComponentTransfer × (SvgNode × Unit {0})) ComponentTransfer} (f : F) (bytes : Bor (List ℕ))
+    (call : (v : ComponentTransfer) (n : SvgNode) (w : ComponentTransfer) (h : F) → Called g f (v, (n, tt)) w h
+    → (component_transfer_is n.bytes.now w ≡ transfer_from (component_transfer_is n.bytes.now v) (node_of n ∷ [])) × (h ≡ f)) where
+  pub fold_is : (v r : ComponentTransfer) (s ns : List SvgNode) → s ≡ ns → OfSheet bytes ns
+      → (xs : List SvgNode) × (h : F) × Drains (YieldsFirst (λ (left : List SvgNode). left)) s xs × FoldsTo {P = F × ComponentTransfer} (λ p x q. Called g p.0 (p.1, (x, tt)) q.1 q.0) (f, v) xs (h, r)
+      → component_transfer_is bytes.now r ≡ transfer_from (component_transfer_is bytes.now v) (map node_of ns)
   unfolding functions_of last_or
-  fold_is v r ran =
-      fold_over nat_range_steps (λ (k : ℕ). node_at s (i + k)) g (λ ns w. component_transfer_is s w ≡ transfer_from (component_transfer_is s v) ns) f
-      (λ ns a k b h e c. let d = call a k b h c in (d.0 ∙ ap (λ (x : spec.ComponentTransferFields). transfer_from x (node_at s (i + k) ∷ [])) e ∙ transfer_more (component_transfer_is s v) ns (node_at s (i + k)), d.1))
-      (record { start = 0; end = n }) (nodes_from s i n) v r (rw (add-zero i) at (nodes_by_number s i n 0 n (omega arith))) refl ran
+  fold_is v r s ns same in_sheet ran =
+      let given = component_transfer_is bytes.now v in
+      fold_over (YieldsFirst (λ (left : List SvgNode). left)) (λ (n : SvgNode). n) g (λ ys w. OfSheet bytes ys → component_transfer_is bytes.now w ≡ transfer_from given (map node_of ys)) f
+      (λ ys a n b h e c.
+      let d = call a n b h c in (
+        λ o.
+            let p = apart bytes ys n o in
+            subst (λ (z : Bor (List ℕ)). component_transfer_is z.now b ≡ transfer_from (component_transfer_is z.now a) (node_of n ∷ [])) p.1 d.0
+            ∙ ap (λ (x : spec.ComponentTransferFields). transfer_from x (node_of n ∷ [])) (e p.0)
+            ∙ transfer_more given (map node_of ys) (node_of n)
+            ∙ ap (transfer_from given) (sym (map-append node_of ys (n ∷ []))),
+        d.1,
+      ))
+      s ns v r (YieldsList-from_first (λ (n : SvgNode). n) (λ (left : List SvgNode). left) ns same).runs (λ o. refl) ran in_sheet

@@ -15,12 +15,12 @@ arithmetic_of n = Arithmetic (number_or n aid_k1 plus_zero) (number_or n aid_k2 
 -- the operators but `over`
 abbrev pub operators : Node → List (Keyword CompositeOperator)
 operators n =
-    "in" means In
+    "arithmetic" means arithmetic_of n
+    ∷ "in" means In
     ∷ "out" means Out
     ∷ "atop" means Atop
     ∷ "xor" means Xor
     ∷ "lighter" means Lighter
-    ∷ "arithmetic" means arithmetic_of n
     ∷ []
 
 -- `over` where `operator` is absent or another text

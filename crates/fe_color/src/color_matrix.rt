@@ -9,17 +9,14 @@ ghost use Rattle.fe_color.specs.ColorMatrix.{first_or, saturate_of, hue_rotate_o
 use fe::is_word;
 use names::aid;
 use num::f32_bound;
-use number_list::{Numbers, number_at, numbers_len};
+use number_list::{Numbers, numbers_len};
 use svgtree::SvgNode;
 use tree::ColorMatrixKind;
 
 fn first_or(s: &[u8], list: Numbers, default: f32) -> f32
     ensures { result ≡ first_or default (numbers_is s.now list) }
 {
-    if numbers_len(s, list) == 0 {
-        return default;
-    }
-    number_at(s, list, 0)
+    list.iter(s).next().unwrap_or(default)
 }
 
 fn saturate(s: &[u8], values: Option<Numbers>) -> ColorMatrixKind
@@ -49,6 +46,7 @@ fn matrix(s: &[u8], values: Option<Numbers>) -> ColorMatrixKind
     }
 }
 
+// No table of `keyword`: each word has a conversion of its own, and a table would hold the answers of them all before one is chosen.
 #[tactic(auto, unfolding(fe::specs::Keywords::keyword))]
 pub fn convert_color_matrix_kind(node: SvgNode<'_>) -> ColorMatrixKind
     ensures { color_matrix_kind_is node.entry.bytes.now result ≡ color_matrix_kind_of (node_of node.entry) }

@@ -39,6 +39,7 @@ fn gamma(node: SvgNode<'_>) -> TransferFunction
     }
 }
 
+// No table of `keyword`, as for feColorMatrix: a table would hold each function with its numbers read, though one of them is asked for.
 #[tactic(auto, unfolding(fe::specs::Keywords::keyword, crate::specs::ComponentTransfer::transfer_function_of))]
 pub fn convert_transfer_function(node: SvgNode<'_>) -> Option<TransferFunction>
     ensures { maybe_transfer_function_is node.entry.bytes.now result ≡ transfer_function_of (node_of node.entry) }
@@ -108,5 +109,5 @@ pub fn convert_component_transfer(children: NodeRun<'_>) -> ComponentTransfer
         func_b: TransferFunction::Identity,
         func_a: TransferFunction::Identity,
     };
-    (0..children.count).fold(unchanged, |kind, k| with_child(kind, children.get(k)))
+    children.nodes().fold(unchanged, with_child)
 }

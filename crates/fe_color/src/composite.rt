@@ -3,7 +3,7 @@ ghost use Rattle.std.specs.Prelude.{◌≡◌};
 ghost use Rattle.svgtree.specs.Nodes.{node_of};
 ghost use Rattle.fe_color.specs.Composite.{arithmetic_of, composite_operator_of};
 
-use fe::{is_word, number_or};
+use fe::{is_word, keyword, number_or};
 use names::aid;
 use svgtree::SvgNode;
 use tree::CompositeOperator;
@@ -19,28 +19,22 @@ fn arithmetic(node: SvgNode<'_>) -> CompositeOperator
     }
 }
 
+// The operators but `over`, and but `arithmetic`, which has numbers.
+const OPERATORS: [(&[u8], CompositeOperator); 5] = [
+    (b"in", CompositeOperator::In),
+    (b"out", CompositeOperator::Out),
+    (b"atop", CompositeOperator::Atop),
+    (b"xor", CompositeOperator::Xor),
+    (b"lighter", CompositeOperator::Lighter),
+];
+
 #[tactic(auto, unfolding(fe::specs::Keywords::keyword))]
 pub fn convert_composite(node: SvgNode<'_>) -> CompositeOperator
     ensures { result ≡ composite_operator_of (node_of node.entry) }
 {
     let operator = node.attribute(aid::OPERATOR);
-    if is_word(node.bytes, operator, b"in") {
-        return CompositeOperator::In;
-    }
-    if is_word(node.bytes, operator, b"out") {
-        return CompositeOperator::Out;
-    }
-    if is_word(node.bytes, operator, b"atop") {
-        return CompositeOperator::Atop;
-    }
-    if is_word(node.bytes, operator, b"xor") {
-        return CompositeOperator::Xor;
-    }
-    if is_word(node.bytes, operator, b"lighter") {
-        return CompositeOperator::Lighter;
-    }
     if is_word(node.bytes, operator, b"arithmetic") {
         return arithmetic(node);
     }
-    CompositeOperator::Over
+    keyword(node.bytes, operator, &OPERATORS, CompositeOperator::Over)
 }

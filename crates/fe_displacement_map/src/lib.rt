@@ -8,27 +8,24 @@ ghost use Rattle.svgtree.specs.Readers.{text_of};
 ghost use Rattle.fe_displacement_map.specs.DisplacementMap.{channel_of, displacement_with, displacement_map_of};
 
 use answer::Refusal;
-use fe::{is_word, number_or};
+use fe::{keyword, number_or};
 use geom::Size;
 use names::aid;
 use num::is_finite;
 use svgtree::SvgNode;
 use tree::{ColorChannel, DisplacementMap};
 
+const CHANNELS: [(&[u8], ColorChannel); 3] = [
+    (b"R", ColorChannel::R),
+    (b"G", ColorChannel::G),
+    (b"B", ColorChannel::B),
+];
+
 #[tactic(auto, unfolding(fe::specs::Keywords::keyword))]
 fn parse_channel(node: SvgNode<'_>, id: u16) -> ColorChannel
     ensures { result ≡ channel_of (text_of (node_of node.entry) id) }
 {
-    let t = node.attribute(id);
-    if is_word(node.bytes, t, b"R") {
-        ColorChannel::R
-    } else if is_word(node.bytes, t, b"G") {
-        ColorChannel::G
-    } else if is_word(node.bytes, t, b"B") {
-        ColorChannel::B
-    } else {
-        ColorChannel::A
-    }
+    keyword(node.bytes, node.attribute(id), &CHANNELS, ColorChannel::A)
 }
 
 // `sum` is width + height.

@@ -2,7 +2,7 @@
 -- and both ends. Assumes nothing.
 use mathlib.Core.Path.{◌≡◌, refl, subst}
 use Prim.Native.Nat.{ℕ, ◌*◌, ◌≤◌, ◌<◌}
-use native.Mathlib.Nat.{zero-lt-suc, le_of_lt, le_of_eq, mul-pos, mul-le-mul_left, mul-le-mul_right, le_trans}
+use native.Mathlib.Nat.{zero-lt-suc, le_of_lt, le_of_eq, mul-pos}
 use native.Mathlib.Omega.{arith}
 use mathlib.Core.Bool.{Bool, true, false, not, ◌&&◌, ◌||◌}
 use lib.IntN.{ℤ}
@@ -11,6 +11,7 @@ use lib.Ieee.{Float, nan, inf, fin, binary32, up, down, of_bits, of_int, round, 
 use lib.Ieee.Scale.{finite}
 use lib.Ieee.Fits.{and_i, and_l, and_r, down_pos}
 use lib.Ieee.Order.{round_mono}
+use Rattle.std.proofs.lemmas.Nat.{mul-le}
 use Rattle.num.specs.Constants.{plus_zero, one}
 use Rattle.num.specs.Numbers.{IsNumber}
 use Rattle.num.specs.Sign.{sign_negative, opacity_in}
@@ -65,9 +66,6 @@ not_ok (fin false m e) h = (tt, tt)
 pub opacity_num : (x : Float) → T (opacity_in x) → IsNumber x
 opacity_num x h = finite_num x (not_ok x h).1
 
-product : (a b c d : ℕ) → a ≤ c → b ≤ d → a * b ≤ c * d
-product a b c d h k = le_trans (mul-le-mul_right b h) (mul-le-mul_left c k)
-
 pub mul_ok : (x y : Float) → T (opacity_in x) → T (opacity_in y) → T (opacity_in (mul binary32 x y))
 unfolding mul
 mul_ok nan y h k = absurd (not_ok nan h).1
@@ -78,7 +76,7 @@ mul_ok (fin false m e) (inf t) h k = absurd (not_ok (inf t) k).1
 mul_ok (fin false m e) (fin true n d) h k = absurd (not_ok (fin true n d) k).0
 mul_ok (fin false m e) (fin false n d) h k =
     rounded_ok (m * up e * (n * up d)) (down e * down d) (mul-pos (down_pos e) (down_pos d))
-    (product (m * up e) (n * up d) (down e) (down d) (fraction m e h) (fraction n d k))
+    (mul-le (m * up e) (n * up d) (down e) (down d) (fraction m e h) (fraction n d k))
 
 -- ---- alpha ÷ 255
 opaque_is : round binary32 false 255 1 ≡ opaque_alpha

@@ -5,7 +5,7 @@ ghost use Rattle.std.specs.Prelude.{◌≡◌};
 ghost use Rattle.svgtree.specs.Nodes.{node_of};
 ghost use Rattle.fe_flood.specs.Flood.{or_black, split_alpha, flood_of, transparent_black};
 
-use fe::{number_or, without_alpha};
+use fe::{BLACK, number_or, without_alpha};
 use names::aid;
 use svgtree::SvgNode;
 use tree::Flood;
@@ -17,15 +17,17 @@ pub struct SplitColor {
     pub opacity: f32,
 }
 
+const OPAQUE_BLACK: svgtree::Color = svgtree::Color {
+    red: 0,
+    green: 0,
+    blue: 0,
+    alpha: 255,
+};
+
 fn or_black(c: Option<svgtree::Color>) -> svgtree::Color
     ensures { result ≡ or_black c }
 {
-    c.unwrap_or(svgtree::Color {
-        red: 0,
-        green: 0,
-        blue: 0,
-        alpha: 255,
-    })
+    c.unwrap_or(OPAQUE_BLACK)
 }
 
 #[tactic(auto, unfolding(crate::specs::Flood::alpha_opacity))]
@@ -54,11 +56,7 @@ pub fn create_dummy_primitive() -> Flood
     ensures { result ≡ transparent_black }
 {
     Flood {
-        color: tree::Color {
-            red: 0,
-            green: 0,
-            blue: 0,
-        },
+        color: BLACK,
         opacity: 0.0,
     }
 }

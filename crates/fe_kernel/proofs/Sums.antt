@@ -1,11 +1,6 @@
 -- The kernel's sum, one number at a time, and that it is no NaN. Assumes nothing.
-use Prim.Native.Nat.{ℕ, ◌+◌, ◌≤◌, ◌<◌}
-use native.Mathlib.Numerals.{add-one}
-use mathlib.Core.Path.{◌≡◌, sym, ap, ◌∙◌}
 use mathlib.Core.List.{List, [], ◌∷◌}
 use lib.Dec.{T}
-use lib.ListN.{length, get_or, drop, drop_of_length-le}
-use lib.Seq.{drop-cons}
 use lib.Ieee.{Float, binary32, add, mul, of_bits, is_nan}
 use Rattle.num.specs.Constants.{plus_zero, one}
 use Rattle.num.specs.Numbers.{IsFinite, IsNumber, Each}
@@ -15,15 +10,6 @@ use Rattle.num.proofs.Laws.{nonzero, finite_num, cond_num, add_num_left, mul_num
 use Rattle.num.proofs.Finite.{zero_finite}
 use Rattle.num.proofs.Wholes.{rounded_num}
 use Rattle.fe_kernel.specs.Divisor.{sum_from, million, kernel_sum, default_divisor}
-
--- the number at i is added to the total of those before it
-pub sum_next : (xs : List Float) (t : Float) (i : ℕ) → i < length xs → sum_from t (drop i xs) ≡ sum_from (add binary32 t (get_or xs i plus_zero)) (drop (i + 1) xs)
-unfolding sum_from
-sum_next xs t i h = ap (sum_from t) (drop-cons xs i plus_zero h) ∙ ap (λ (k : ℕ). sum_from (add binary32 t (get_or xs i plus_zero)) (drop k xs)) (sym (add-one i))
-
-pub sum_end : (xs : List Float) (t : Float) (i : ℕ) → length xs ≤ i → sum_from t (drop i xs) ≡ t
-unfolding sum_from
-sum_end xs t i h = ap (sum_from t) (drop_of_length-le xs h)
 
 sum_num : (t : Float) (xs : List Float) → IsNumber t → Each IsFinite xs → IsNumber (sum_from t xs)
 unfolding sum_from

@@ -8,7 +8,7 @@ ghost use Rattle.fe_kernel.specs.Means.{maybe_matrix_is, maybe_convolve_matrix_i
 use crate::divisor::convert_divisor;
 use crate::order::{Order, convert_order};
 use crate::target::parse_target;
-use fe::{is_word, number_or};
+use fe::{is_word, keyword, number_or};
 use names::aid;
 use num::approx_zero_ulps;
 use number_list::{Numbers, numbers_len};
@@ -42,18 +42,14 @@ fn convert_matrix(node: SvgNode<'_>, kernel: Numbers) -> Option<ConvolveMatrixDa
     })
 }
 
+const EDGE_MODES: [(&[u8], EdgeMode); 2] = [(b"none", EdgeMode::None), (b"wrap", EdgeMode::Wrap)];
+
 #[tactic(auto, unfolding(fe::specs::Keywords::keyword))]
 fn convert_edge_mode(node: SvgNode<'_>) -> EdgeMode
     ensures { result ≡ edge_mode_of (node_of node.entry) }
 {
     let mode = node.attribute(aid::EDGE_MODE);
-    if is_word(node.bytes, mode, b"none") {
-        return EdgeMode::None;
-    }
-    if is_word(node.bytes, mode, b"wrap") {
-        return EdgeMode::Wrap;
-    }
-    EdgeMode::Duplicate
+    keyword(node.bytes, mode, &EDGE_MODES, EdgeMode::Duplicate)
 }
 
 fn convert_preserve_alpha(node: SvgNode<'_>) -> bool

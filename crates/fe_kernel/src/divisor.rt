@@ -8,18 +8,16 @@ ghost use Rattle.fe_kernel.specs.Divisor.{sum_from, default_divisor, divisor_of}
 use fe::number_or;
 use names::aid;
 use num::{approx_zero_ulps, round_f32};
-use number_list::{Numbers, after_number, number_from, numbers_len};
+use number_list::Numbers;
 use svgtree::SvgNode;
 
-#[tactic(auto, using(crate::proofs::Sums::sum_next, crate::proofs::Sums::sum_end, number_list::proofs::Lists::walked_first, number_list::proofs::Lists::walked_rest))]
+#[tactic(auto, unfolding(crate::specs::Divisor::sum_from))]
 fn sum(s: &[u8], kernel: Numbers) -> f32
     ensures { result ≡ sum_from plus_zero (numbers_is s.now kernel) }
 {
     let mut total = 0.0;
-    let mut from = 0;
-    for i in 0..numbers_len(s, kernel) {
-        total += number_from(s, kernel, i, from);
-        from = after_number(s, kernel, from);
+    for number in kernel.iter(s) {
+        total += number;
     }
     total
 }

@@ -15,49 +15,42 @@ pub struct Order {
     pub rows: u32,
 }
 
-// A number that exceeds 0; 0 for every other.
-pub(crate) fn above_zero(x: i32) -> u32
+// Where none is given that can be used.
+const DEFAULT: Order = Order {
+    columns: 3,
+    rows: 3,
+};
+
+// A number that exceeds 0.
+fn above_zero(x: i32) -> Option<u32>
     ensures { result ≡ above_zero x }
 {
-    if x < 0 {
-        return 0;
-    }
-    x as u32
+    u32::try_from(x).ok().filter(|&n| 0 < n)
 }
 
-fn cut_or(t: Option<u64>, default: u32) -> u32
+fn cut_or(t: Option<u64>, default: u32) -> Option<u32>
     ensures { result ≡ cut_or (try_is t) default }
 {
-    t.map_or(default, |bits| above_zero(f64_to_i32(bits)))
+    match t {
+        Some(bits) => above_zero(f64_to_i32(bits)),
+        None => Some(default),
+    }
 }
 
-fn both_above_zero(x: u32, y: u32) -> Order
-    ensures { result ≡ both_above x y }
+// The order of two numbers, or of one for both.
+fn tried_order(tries: Tries) -> Option<Order>
+    ensures { result ≡ both_above (try_is tries.first) (try_is tries.second) }
 {
-    if 0 < x && 0 < y {
-        return Order {
-            columns: x,
-            rows: y,
-        };
-    }
-    Order {
-        columns: 3,
-        rows: 3,
-    }
+    let columns = cut_or(tries.first, 3)?;
+    let rows = cut_or(tries.second, columns)?;
+    Some(Order { columns, rows })
 }
 
 #[tactic(auto, unfolding(crate::specs::Order::order_in))]
 pub(crate) fn convert_order(node: SvgNode<'_>) -> Order
     ensures { result ≡ order_of (node_of node.entry) }
 {
-    match node.attribute::<Tries>(aid::ORDER) {
-        Some(tries) => {
-            let x = cut_or(tries.first, 3);
-            both_above_zero(x, cut_or(tries.second, x))
-        }
-        None => Order {
-            columns: 3,
-            rows: 3,
-        },
-    }
+    node.attribute::<Tries>(aid::ORDER)
+        .and_then(tried_order)
+        .unwrap_or(DEFAULT)
 }

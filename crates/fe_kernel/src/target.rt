@@ -2,7 +2,6 @@
 ghost use Rattle.std.specs.Prelude.{◌≡◌};
 ghost use Rattle.fe_kernel.specs.Target.{target_below, target_inside, target_of};
 
-use crate::order::above_zero;
 use num::f32_to_i32;
 
 fn target_below(t: u32, order: u32) -> Option<u32>
@@ -14,10 +13,7 @@ fn target_below(t: u32, order: u32) -> Option<u32>
 fn target_inside(t: i32, order: u32) -> Option<u32>
     ensures { result ≡ target_inside t order }
 {
-    if t < 0 {
-        return None;
-    }
-    target_below(above_zero(t), order)
+    target_below(u32::try_from(t).ok()?, order)
 }
 
 #[tactic(auto, unfolding(crate::specs::Target::target_of))]

@@ -1,62 +1,59 @@
 -- The light sources among nodes: the first node that is one, or none. Assumes nothing.
-use Rattle.std.specs.Prelude.{None, Option, Some, MatchOption, IsTrue}
+use Rattle.std.specs.Prelude.{None, Option, Some, MatchOption, IsTrue, slice_index_or}
 use Rattle.std.specs.Option.{IfSome, IsSomeAnd, option_map}
+use Rattle.std.specs.Iterator.{YieldsFirst}
 use Rattle.std.specs.Iterator.Runs.{SomeRun, AllItemsGive, IsFirstToGive}
-use Rattle.std.proofs.iter.Yields.{nat_range_steps}
-use Rattle.std.proofs.iter.runs.Sources.{range_runs}
+use Rattle.std.proofs.iter.Rest.{run_of_first}
 use Rattle.std.proofs.lemmas.Option.{none-some}
 use denote.Param.Members.{Mut, Called}
 use mathlib.Core.Path.{◌≡◌, refl, subst}
-use mathlib.Core.List.{List}
+use mathlib.Core.List.{List, [], ◌∷◌, map}
+use lib.ListN.{length}
 use Prim.Native.Nat.{ℕ, zero, suc, ◌+◌, ◌<◌}
 use native.Mathlib.Omega.{arith}
-use native.Mathlib.Nat.{add-zero}
 use Rattle.tree.specs.declared.LightSource.{LightSource}
-use Rattle.svgtree.specs.Parse.{node_at, nodes_from}
+use Rattle.svgtree.specs.declared.SvgNode.{SvgNode}
+use Rattle.svgtree.specs.Nodes.{node_of}
 use Rattle.fe_light.specs.LightSource.{light_of, light_source_of}
 
-module _ (s : List ℕ) where
-  -- nodes i to i + k are no light sources
-  abbrev pub Dark : ℕ → ℕ → Type 0
-  Dark i k = (j : ℕ) → j < k → None ≡ light_of (node_at s (i + j))
+-- node k of some is this light source, or none
+abbrev pub Shines : List SvgNode → ℕ → Option LightSource → Type 0
+Shines ns k o = (d : SvgNode) → o ≡ light_of (node_of (slice_index_or ns k d))
 
-  dark_after : (i k : ℕ) → Dark i (suc k) → Dark (i + 1) k
-  dark_after i k h j l = let e : i + (j + 1) ≡ i + 1 + j = omega arith in rw e at (h (j + 1) (omega arith))
+none_is : (ns : List SvgNode) → ((k : ℕ) → k < length ns → Shines ns k None) → None ≡ light_source_of (map node_of ns)
+unfolding light_source_of
+none_is [] h = refl
+none_is (n ∷ ns) h = rw (← h 0 (omega arith) n) (none_is ns (λ k l. h (suc k) (omega arith)))
 
-  none_is : (i n : ℕ) → Dark i n → None ≡ light_source_of (nodes_from s i n)
-  unfolding light_source_of nodes_from
-  none_is i zero h = refl
-  none_is i (suc n) h = rw (← rw (add-zero i) at (h 0 (omega arith))) (none_is (i + 1) n (dark_after i n h))
+first_is : (ns : List SvgNode) (k : ℕ) (l : LightSource) → k < length ns → Shines ns k (Some l) → ((j : ℕ) → j < k → Shines ns j None) → Some l ≡ light_source_of (map node_of ns)
+unfolding light_source_of
+first_is [] k l h e d = absurd (omega arith)
+first_is (n ∷ ns) zero l h e d = rw (← e n)
+first_is (n ∷ ns) (suc k) l h e d = rw (← d 0 (omega arith) n) (first_is ns k l (omega arith) e (λ j b. d (suc j) (omega arith)))
 
-  first_is : (i n k : ℕ) (l : LightSource) → k < n → Some l ≡ light_of (node_at s (i + k)) → Dark i k → Some l ≡ light_source_of (nodes_from s i n)
-  unfolding light_source_of nodes_from
-  first_is i zero k l h e d = absurd (omega arith)
-  first_is i (suc n) zero l h e d = rw (← rw (add-zero i) at e)
-  first_is i (suc n) (suc k) l h e d =
-      let j : i + suc k ≡ i + 1 + k = omega arith in
-      rw (← rw (add-zero i) at (d 0 (omega arith))) (first_is (i + 1) n k l (omega arith) (rw j at e) (dark_after i k d))
+-- what holds of an item that came, or of one if it came, holds of the node at its place
+came : (P : SvgNode → Type 0) (o : Option SvgNode) (n : SvgNode) → option_map (λ y. y) o ≡ Some n → IsSomeAnd o P → P n
+came P None n e h = absurd h
+came P (Some x) n e h = let k : x ≡ n = cc in subst P k h
 
--- the item that came at place k of a range from 0 is k
-there : (P : ℕ → Type 0) (o : Option ℕ) (k n : ℕ) → IfSome o (λ x. (x ≡ 0 + k) × (x < n)) → IsSomeAnd o P → P k
-there P None k n e h = absurd h
-there P (Some x) k n e h = let j : x ≡ k = omega (arith, e.0) in subst P j h
+if_came : (P : SvgNode → Type 0) (o : Option SvgNode) (n : SvgNode) → option_map (λ y. y) o ≡ Some n → IfSome o P → P n
+if_came P None n e h = absurd (none-some _ e)
+if_came P (Some x) n e h = let k : x ≡ n = cc in subst P k h
 
-some_came : (P : ℕ → Type 0) (o : Option ℕ) (k : ℕ) → option_map (λ y. y) o ≡ Some k → IfSome o P → IsSomeAnd o P
-some_came P None k e h = absurd (none-some _ e)
-some_came P (Some x) k e h = h
-
--- a search over the numbers below n whose closure reads the node so many after node i
-module _ {F : Type 0} {g : Mut F (ℕ × Unit {0}) (Option LightSource)} (f : F) (s : List ℕ) (i n : ℕ)
-    (call : (a : ℕ × Unit {0}) (r : Option LightSource) (h : F) → Called g f a r h → (h ≡ f) × (r ≡ light_of (node_at s (i + a.0)))) where
+-- a search over nodes whose closure reads each
+module _ {F : Type 0} {g : Mut F (SvgNode × Unit {0}) (Option LightSource)} (f : F) (s ns : List SvgNode) (same : s ≡ ns)
+    (call : (a : SvgNode × Unit {0}) (r : Option LightSource) (h : F) → Called g f a r h → (h ≡ f) × (r ≡ light_of (node_of a.0))) where
   pub search_is : (o : Option LightSource)
-      → SomeRun nat_range_steps (record { start = 0; end = n }) (λ p. MatchOption o (IsTrue p.whole × AllItemsGive p g f None) (λ y. (k : ℕ) × (k < p.len) × (p.len ≡ k + 1) × IsFirstToGive p g f (Some y) None k))
-      → o ≡ light_source_of (nodes_from s i n)
+      → SomeRun (YieldsFirst (λ (left : List SvgNode). left)) s (λ p. MatchOption o (IsTrue p.whole × AllItemsGive p g f None) (λ y. (k : ℕ) × (k < p.len) × (p.len ≡ k + 1) × IsFirstToGive p g f (Some y) None k))
+      → o ≡ light_source_of (map node_of ns)
   search_is None h =
-      let c = rw h.1 at (range_runs h.0 h.0.seen) in
+      let c = rw same at (rw h.1 at (run_of_first (λ (left : List SvgNode). left) h.0).1) in
       let given = h.2.1 (λ a r q z. (call a r q z).0) in
-      none_is s i n (λ j l. (call (j, tt) _ _ (there _ (h.0.at j) j n (c.2 j) (some_came _ (h.0.at j) _ (c.3 j (omega (arith, c.1 h.2.0))) (given j)))).1)
+      none_is ns (λ k l d. (call (slice_index_or ns k d, tt) None f (if_came (λ x. Called g f (x, tt) None f) (h.0.at k) _ (c.2 k d (omega (arith, c.1 h.2.0))) (given k))).1)
   search_is (Some l) h =
-      let c = rw h.1 at (range_runs h.0 h.0.seen) in
+      let c = rw same at (rw h.1 at (run_of_first (λ (left : List SvgNode). left) h.0).1) in
       let given = h.2.3 (λ a r q z. (call a r q z).0) in
       let k = h.2.0 in
-      first_is s i n k l (omega (arith, h.2.1, c.0)) (call (k, tt) _ _ (there _ (h.0.at k) k n (c.2 k) given.0)).1 (λ j b. (call (j, tt) _ _ (there _ (h.0.at j) j n (c.2 j) (given.1 j b))).1)
+      first_is ns k l (omega (arith, h.2.1, c.0))
+      (λ d. (call (slice_index_or ns k d, tt) (Some l) f (came (λ x. Called g f (x, tt) (Some l) f) (h.0.at k) _ (c.2 k d h.2.1) given.0)).1)
+      (λ j b d. (call (slice_index_or ns j d, tt) None f (came (λ x. Called g f (x, tt) None f) (h.0.at j) _ (c.2 j d (omega (arith, h.2.1))) (given.1 j b))).1)

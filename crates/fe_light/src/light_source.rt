@@ -5,7 +5,7 @@ ghost use Rattle.fe_light.specs.LightSource.{distant_light_of, point_light_of, s
 
 use fe::number_or;
 use names::{aid, eid};
-use num::is_positive;
+use num::positive;
 use svgtree::SvgNode;
 use svgtree::run::NodeRun;
 use tree::{DistantLight, LightSource, PointLight, SpotLight};
@@ -30,11 +30,11 @@ fn point_light(node: SvgNode<'_>) -> PointLight
 }
 
 // The source's PositiveF32, or 1.
+#[tactic(auto, using(num::proofs::Defaults::positive_or))]
 fn spot_exponent(node: SvgNode<'_>) -> f32
     ensures { result ≡ spot_exponent_of (node_of node.entry) }
 {
-    let exponent = number_or(node, aid::SPECULAR_EXPONENT, 1.0);
-    if is_positive(exponent) { exponent } else { 1.0 }
+    positive(number_or(node, aid::SPECULAR_EXPONENT, 1.0)).unwrap_or(1.0)
 }
 
 fn spot_light(node: SvgNode<'_>) -> SpotLight
@@ -69,5 +69,5 @@ fn light(node: SvgNode<'_>) -> Option<LightSource>
 pub(crate) fn convert_light_source(children: NodeRun<'_>) -> Option<LightSource>
     ensures { result ≡ light_source_of (nodes_of children.entry) }
 {
-    (0..children.count).find_map(|k| light(children.get(k)))
+    children.nodes().find_map(light)
 }

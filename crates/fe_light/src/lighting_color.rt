@@ -3,7 +3,7 @@ ghost use Rattle.std.specs.Prelude.{◌≡◌};
 ghost use Rattle.svgtree.specs.Nodes.{node_of};
 ghost use Rattle.fe_light.specs.LightingColor.{opaque_or, lighting_color_of};
 
-use fe::{is_word, without_alpha};
+use fe::{BLACK, WHITE, is_word, without_alpha};
 use names::aid;
 use svgtree::SvgNode;
 use tree::Color;
@@ -18,22 +18,10 @@ fn opaque_or(color: Option<svgtree::Color>, default: Color) -> Color
 pub(crate) fn convert_lighting_color(node: SvgNode<'_>) -> Color
     ensures { result ≡ lighting_color_of (node_of node.entry) }
 {
-    if is_word(
-        node.bytes,
-        node.attribute(aid::LIGHTING_COLOR),
-        b"currentColor",
-    ) {
-        let black = Color {
-            red: 0,
-            green: 0,
-            blue: 0,
-        };
-        return opaque_or(node.attribute(aid::COLOR), black);
+    // `currentColor` is a text, and every other value a colour.
+    let text = node.attribute(aid::LIGHTING_COLOR);
+    if is_word(node.bytes, text, b"currentColor") {
+        return opaque_or(node.attribute(aid::COLOR), BLACK);
     }
-    let white = Color {
-        red: 255,
-        green: 255,
-        blue: 255,
-    };
-    opaque_or(node.attribute(aid::LIGHTING_COLOR), white)
+    opaque_or(node.attribute(aid::LIGHTING_COLOR), WHITE)
 }

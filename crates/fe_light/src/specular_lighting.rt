@@ -11,11 +11,11 @@ use svgtree::SvgNode;
 use svgtree::run::NodeRun;
 use tree::SpecularLighting;
 
-// The source's `(1.0..=128.0).contains(&x)`, as the definition's two tests: a proof over `contains` does not close by itself.
+#[tactic(auto, using(crate::proofs::Exponents::within))]
 fn exponent_in_range(x: f32) -> bool
     ensures { result ≡ exponent_in_range x }
 {
-    1.0 <= x && x <= 128.0
+    (1.0..=128.0).contains(&x)
 }
 
 // The source also holds the exponent between 1 and 128, where it is already.

@@ -6,26 +6,25 @@ ghost use Rattle.std.specs.Prelude.{◌≡◌};
 ghost use Rattle.names.specs.Ids.{aid_radius};
 ghost use Rattle.svgtree.specs.Nodes.{node_of};
 ghost use Rattle.svgtree.specs.Readers.{numbers_of};
-ghost use Rattle.fe_morphology.specs.Morphology.{morphology_operator_of, one_for_zero, ones_for_zeros, radius_from, radius_of, morphology_of};
+ghost use Rattle.fe_morphology.specs.Morphology.{morphology_operator_of, one_for_zero, ones_for_zeros, unit_radius, radius_from, radius_of, morphology_of};
 
 use answer::Refusal;
-use fe::is_word;
-use fe::pair::{Pair, if_positive, list_pair, signs_clear};
+use fe::keyword;
+use fe::pair::{Pair, list_pair};
 use geom::Size;
 use names::aid;
 use num::approx_zero_ulps;
 use svgtree::SvgNode;
 use tree::{Morphology, MorphologyOperator};
 
+const OPERATORS: [(&[u8], MorphologyOperator); 1] = [(b"dilate", MorphologyOperator::Dilate)];
+
 #[tactic(auto, unfolding(fe::specs::Keywords::keyword))]
 fn morphology_operator(node: SvgNode<'_>) -> MorphologyOperator
     ensures { result ≡ morphology_operator_of (node_of node.entry) }
 {
-    if is_word(node.bytes, node.attribute(aid::OPERATOR), b"dilate") {
-        MorphologyOperator::Dilate
-    } else {
-        MorphologyOperator::Erode
-    }
+    let operator = node.attribute(aid::OPERATOR);
+    keyword(node.bytes, operator, &OPERATORS, MorphologyOperator::Erode)
 }
 
 #[tactic(auto, unfolding(crate::specs::Morphology::one_for_zero))]
@@ -45,20 +44,28 @@ fn ones_for_zeros(p: Pair) -> Pair
     }
 }
 
+// The radius 1 on both axes, scaled.
+fn unit_radius(scale: Size) -> Pair
+    ensures { result ≡ unit_radius scale }
+{
+    Pair {
+        x: scale.width,
+        y: scale.height,
+    }
+}
+
 // Both radii must have a clear sign; else they are 1.
 fn radius_from(p: Pair, scale: Size) -> Option<Pair>
     ensures { result ≡ radius_from p scale }
 {
-    if signs_clear(p) {
-        return if_positive(Pair {
+    if p.signs_clear() {
+        let scaled = Pair {
             x: p.x * scale.width,
             y: p.y * scale.height,
-        });
+        };
+        return scaled.if_positive();
     }
-    Some(Pair {
-        x: scale.width,
-        y: scale.height,
-    })
+    Some(unit_radius(scale))
 }
 
 fn radius(node: SvgNode<'_>, scale: Size) -> Option<Pair>
@@ -66,10 +73,7 @@ fn radius(node: SvgNode<'_>, scale: Size) -> Option<Pair>
 {
     match node.attribute(aid::RADIUS) {
         Some(list) => radius_from(ones_for_zeros(list_pair(node.bytes, list)), scale),
-        None => Some(Pair {
-            x: scale.width,
-            y: scale.height,
-        }),
+        None => Some(unit_radius(scale)),
     }
 }
 

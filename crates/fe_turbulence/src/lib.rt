@@ -8,8 +8,8 @@ ghost use Rattle.svgtree.specs.Readers.{numbers_of};
 ghost use Rattle.fe_turbulence.specs.Turbulence.{frequency_from, frequency_of, turbulence_kind_of, turbulence_fields, turbulence_of};
 
 use answer::Refusal;
-use fe::pair::{Pair, if_positive, list_pair, signs_clear};
-use fe::{is_word, number_or};
+use fe::pair::{Pair, list_pair};
+use fe::{is_word, keyword, number_or};
 use names::aid;
 use num::{f32_to_i32, octaves};
 use svgtree::SvgNode;
@@ -18,10 +18,10 @@ use tree::{Turbulence, TurbulenceKind};
 fn frequency_from(p: Pair) -> Option<Pair>
     ensures { result ≡ frequency_from p }
 {
-    if signs_clear(p) {
-        if_positive(p)
+    if p.signs_clear() {
+        p.if_positive()
     } else {
-        Some(Pair { x: 0.0, y: 0.0 })
+        Some(Pair::ZERO)
     }
 }
 
@@ -30,19 +30,18 @@ fn base_frequency(node: SvgNode<'_>) -> Option<Pair>
 {
     match node.attribute(aid::BASE_FREQUENCY) {
         Some(list) => frequency_from(list_pair(node.bytes, list)),
-        None => Some(Pair { x: 0.0, y: 0.0 }),
+        None => Some(Pair::ZERO),
     }
 }
+
+const KINDS: [(&[u8], TurbulenceKind); 1] = [(b"fractalNoise", TurbulenceKind::FractalNoise)];
 
 #[tactic(auto, unfolding(fe::specs::Keywords::keyword))]
 fn turbulence_kind(node: SvgNode<'_>) -> TurbulenceKind
     ensures { result ≡ turbulence_kind_of (node_of node.entry) }
 {
-    if is_word(node.bytes, node.attribute(aid::TYPE), b"fractalNoise") {
-        TurbulenceKind::FractalNoise
-    } else {
-        TurbulenceKind::Turbulence
-    }
+    let kind = node.attribute(aid::TYPE);
+    keyword(node.bytes, kind, &KINDS, TurbulenceKind::Turbulence)
 }
 
 fn turbulence_fields(node: SvgNode<'_>, p: Pair) -> Turbulence

@@ -1,8 +1,10 @@
 -- What `take_single` and `take_number` tell of a number, and that a number that is not finite fails every test of refusal 3. Assumes nothing.
-use Rattle.std.specs.Prelude.{None, Some}
-use mathlib.Core.Path.{◌≡◌, refl}
+use Rattle.std.specs.Prelude.{None, Some, cond, ◌||◌}
+use Rattle.std.proofs.Common.{Less, Equal, Greater}
+use Rattle.std.specs.Ordering.{is_some_and, is_le, partial_le, partial_lt, float_partial_cmp}
+use mathlib.Core.Path.{◌≡◌, refl, ◌∙◌}
 use mathlib.Core.Bool.{Bool, true, false, ◌&&◌}
-use lib.Ieee.{Float, nan, inf, fin, of_bits, lt, le}
+use lib.Ieee.{Float, nan, inf, fin, of_bits, eq, lt, le}
 use lib.Ieee.Scale.{finite}
 use Rattle.num.specs.Narrowed.{narrowed}
 use Rattle.num.specs.Means.{if_finite, pick_number}
@@ -59,6 +61,22 @@ no_opacity nan e = refl
 no_opacity (inf true) e = refl
 no_opacity (inf false) e = refl
 no_opacity (fin s m k) e = cc
+
+-- `<=` by the order that a range's `contains` goes by
+
+ordered : (l e g : Bool) → is_some_and is_le (cond l (Some Less) (cond e (Some Equal) (cond g (Some Greater) None))) ≡ (l || e)
+ordered true e g = refl
+ordered false true g = refl
+ordered false false true = refl
+ordered false false false = refl
+
+le_ordered : (x y : Float) → partial_le float_partial_cmp x y ≡ le x y
+unfolding le
+le_ordered x y = ordered (lt x y) (eq x y) (lt y x)
+
+-- what `contains` tells of a range of floats, by its bounds
+pub within_bounds : (x s e low high : Float) (spent b : Bool) → s ≡ low → e ≡ high → spent ≡ false → b ≡ (partial_le float_partial_cmp s x && cond spent (partial_lt float_partial_cmp x e) (partial_le float_partial_cmp x e)) → b ≡ (le low x && le x high)
+within_bounds x s e low high spent b p q r v = v ∙ rw (p, q, r, le_ordered, le_ordered)
 
 -- what is told of a number that is taken
 pub ruleset taken = (finite_yes, finite_is, finite_no, double_narrowed, no_length, no_view_box_length, no_opacity)

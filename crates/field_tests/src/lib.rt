@@ -13,7 +13,8 @@ use bits::{byte, get32, get64};
 use geom::{is_valid_length, is_view_box_length};
 use num::{is_sign_negative, take_number, take_single};
 
-// Bytes. A field is a place and a length. No slices: a field may reach past the lent bytes, where zeros are read, and no caller has to rule that out.
+// Bytes. A field is a place and a length. No slices: a field may reach past the lent bytes, where zeros are read, and no caller has to rule that out. A place is a u32's, or that
+// and a few constants: its bound is there only so that adding one more does not overflow, and a type of places would need it again at each addition.
 
 // Whether n bytes from a place on are zero.
 pub fn is_zero(s: &[u8], from: usize, n: u8) -> bool
@@ -32,7 +33,7 @@ pub fn marked_ok(s: &[u8], mark: u8, from: usize, n: u8) -> bool
     mark == 1 || (mark == 0 && is_zero(s, from, n))
 }
 
-// Numbers.
+// Numbers. A name for each test: of one function over a closure, each caller would have to show that its closure is the test of its definition.
 
 pub fn is_finite_at(s: &[u8], at: usize) -> bool
     ensures { result ≡ finite (single s.now at) }
@@ -69,7 +70,7 @@ pub fn is_valid_length_at(s: &[u8], at: usize) -> bool
 fn is_opacity(x: f32) -> bool
     ensures { result ≡ opacity_in x }
 {
-    0.0 <= x && x <= 1.0 && !is_sign_negative(x)
+    (0.0..=1.0).contains(&x) && !is_sign_negative(x)
 }
 
 pub fn is_opacity_at(s: &[u8], at: usize) -> bool

@@ -1,5 +1,6 @@
 // The functions of one amount: the numbers of their matrices, tables and transfer functions. `convert_grayscale_function` and its seven siblings are the
-// functions of that name in parser/filter.rs. An f64 argument is given by its bits; a Vec of numbers is an array.
+// functions of that name in parser/filter.rs. An f64 argument is given by its bits, as the record and C have it, so that no function needs an f64 that may be NaN: `narrow`
+// takes bits. A Vec of numbers is an array, as there is no heap.
 #![tactic(auto)]
 
 ghost use Rattle.std.specs.Prelude.{◌≡◌};
@@ -10,7 +11,7 @@ ghost use Rattle.num.specs.Narrowed.{as_f32};
 ghost use Rattle.tree.specs.declared.TransferFunction.TheVariants.{Linear};
 ghost use Rattle.function_amounts.specs.Amounts.{held, positive_or_zero, grayscale_matrix, sepia_matrix, invert_table, opacity_table, contrast_intercept};
 
-use num::{double_narrowed, is_positive};
+use num::{double_narrowed, positive};
 use std::num::f64_from_bits_with_nan;
 use tree::TransferFunction;
 
@@ -28,11 +29,11 @@ fn held_at_one(amount: u64) -> f32
 }
 
 // The crate's `PositiveF32::new(x).unwrap_or(PositiveF32::ZERO)`.
-#[tactic(auto, unfolding(crate::specs::Amounts::positive_or_zero))]
+#[tactic(auto, using(num::proofs::Defaults::positive_or), unfolding(crate::specs::Amounts::positive_or_zero))]
 pub fn positive_or_zero(x: f32) -> f32
     ensures { result ≡ positive_or_zero x }
 {
-    if is_positive(x) { x } else { 0.0 }
+    positive(x).unwrap_or(0.0)
 }
 
 // Colour matrices. Each is written out, as the paper and the source have it: what the two have in common is where the zeros stand.
@@ -107,7 +108,8 @@ pub fn convert_hue_rotate_function(degrees: u64) -> f32
     double_narrowed(degrees)
 }
 
-// Transfer functions.
+// Transfer functions: one for each name in filter.rs. Invert and opacity share no number but the amount, and brightness and contrast no more than the slope:
+// one form for two would take the rest as arguments, and be no shorter than either.
 
 #[tactic(auto, unfolding(crate::specs::Amounts::invert_table))]
 pub fn convert_invert_function(amount: u64) -> [f32; 2]

@@ -9,10 +9,10 @@ ghost use Rattle.field_tests.specs.Tests.{all, double_ok};
 ghost use Rattle.tree.specs.Input.{SourceGraphic, input_bytes};
 ghost use Rattle.tree.specs.Kinds as spec;
 ghost use Rattle.tree.specs.Fields.{transfer_function_bytes};
+ghost use Rattle.tree.specs.Places.{kind_name_place};
 ghost use Rattle.tree.specs.List.{kind_bytes};
-ghost use Rattle.tree.specs.Means.{color_matrix_kind_is, transfer_function_is};
-ghost use Rattle.tree.specs.Sizes.{color_matrix_kind_size, component_transfer_size};
-ghost use Rattle.functions.specs.Records.{record_argument, given_length_at, flagged_color, given_shadow, function_by, code_of, function_record};
+ghost use Rattle.tree.specs.declared.TransferFunction.TheVariants.{Identity};
+ghost use Rattle.functions.specs.Records.{record_argument, given_length_at, flagged_color, given_shadow, function_by, function_record};
 ghost use Rattle.functions.specs.Functions.{on_colors, on_alpha, function_state, user_length, deviation_of, function_blur, color_or, function_shadow, function_kind};
 ghost use Rattle.functions.specs.Refusals.{size_by, shadow_ok, arguments_ok, function_layout_ok, function_numbers, function_numbers_ok, function_refusal};
 ghost use Rattle.functions.specs.Call.{ConvertedFunction};
@@ -25,22 +25,25 @@ use fe_flood::split_alpha;
 use field_tests::{
     is_double_at, is_positive_at, is_valid_length_at, is_view_box_length_at, marked_ok,
 };
+use filter_function::FilterFunction;
 use function_amounts::{
     convert_brightness_function, convert_contrast_function, convert_grayscale_function,
     convert_hue_rotate_function, convert_invert_function, convert_opacity_function,
     convert_saturate_function, convert_sepia_function, positive_or_zero,
 };
 use geom::Size;
-use list_values::{
-    put_color_matrix_kind, put_component_transfer, put_drop_shadow, put_gaussian_blur, put_values,
-};
+use list_values::{ToList, put_values};
 use names::aid;
 use num::single;
-use sheet_fields::{marked, unit};
+use sheet_fields::{marked, size as value_size, unit};
 use svgtree::values::{color_from, length_from};
 use svgtree::{Color, Units};
-use tree::{ColorMatrixKind, ComponentTransfer, DropShadow, GaussianBlur, TransferFunction};
-use units::{State, convert_length};
+use tree::{
+    ColorMatrixKind, ComponentTransfer, DropShadow, GaussianBlur, KindName, TransferFunction,
+};
+use units::{LengthContext, State};
+
+mod filter_function;
 
 // Where the fields of a record stand.
 mod field {
@@ -60,6 +63,8 @@ mod field {
 
     pub const COLOR: usize = 14;
 
+    pub const COLOR_SIZE: u8 = 4;
+
     pub const FALLBACK: usize = 18;
 
     pub const DX: usize = 22;
@@ -67,6 +72,27 @@ mod field {
     pub const DY: usize = 31;
 
     pub const STD_DEVIATION: usize = 40;
+}
+
+// How many bytes the parts of a function's kind have.
+mod size {
+    // The kind's place, and SourceGraphic's.
+    pub const HEAD: usize = 2;
+
+    // The place of an enum's case, which is all of Identity.
+    pub const CASE: usize = 1;
+
+    pub const COUNT: usize = 2;
+
+    pub const NUMBER: usize = 4;
+
+    pub const COLOR: usize = 3;
+
+    pub const MATRIX: usize = CASE + COUNT + 20 * NUMBER;
+
+    pub const TABLE: usize = CASE + COUNT + 2 * NUMBER;
+
+    pub const LINEAR: usize = CASE + 2 * NUMBER;
 }
 
 // The functions, each at the place that is its code.
@@ -84,6 +110,7 @@ enum FunctionName {
     DropShadow,
 }
 
+// By hand, since no conversion leads from a place to its variant.
 impl TryFrom<u8> for FunctionName {
     type Error = Refusal;
 
@@ -128,14 +155,12 @@ fn user_length(s: &[u8], at: usize) -> f32
     ensures { result ≡ user_length (function_record s.now) (given_length_at s.now at) }
 {
     let length = length_from(s, at);
-    let font_size = single(get32(s, field::FONT_SIZE));
-    convert_length(
-        length,
-        aid::DX,
-        Units::UserSpaceOnUse,
-        state_of(s),
-        font_size,
-    )
+    let lengths = LengthContext {
+        units: Units::UserSpaceOnUse,
+        state: state_of(s),
+        font_size: single(get32(s, field::FONT_SIZE)),
+    };
+    lengths.convert_length(length, aid::DX)
 }
 
 fn std_deviation(s: &[u8], at: usize) -> f32
@@ -182,15 +207,27 @@ pub fn convert_drop_shadow_function(s: &[u8]) -> DropShadow
     }
 }
 
-// Writers. Each kind is its place, SourceGraphic as its input, and its other fields.
+// Writers. Each kind is its place, SourceGraphic as its input, and its other fields: `put_fields` takes those that are a value of `ToList`. `put_matrix` and the
+// three of tables have numbers in an array, which is no such value (see `put_values`), and no generic function that takes the writer of the fields: its clauses would have
+// to name those of the closure, and be longer than the two calls. The places of an enum's cases are written out, since an enum whose variants hold fields has no `as`:
+// 0 is SourceGraphic, Matrix and the transfer function Identity, 1 is Table. A clause gives an array's size as its number, as `kind_size` of proofs/ does for all ten;
+// the code has the sums in `size`.
 
 #[tactic(auto, unfolding(tree::specs::Input::input_bytes))]
-fn put_head(place: u8, out: &mut Writer)
+fn put_head(kind: KindName, out: &mut Writer)
     requires { HasRoom out.old 2 }
-    ensures { Writes out.old 2 ((place ∷ []) ++ input_bytes SourceGraphic) out.new }
+    ensures { Writes out.old 2 ((kind_name_place kind ∷ []) ++ input_bytes SourceGraphic) out.new }
 {
-    out.put(place);
+    out.put(u8::from(kind));
     out.put(0u8);
+}
+
+fn put_fields<T: ToList>(s: &[u8], kind: KindName, fields: T, out: &mut Writer)
+    requires { HasRoom out.old (2 + T.size s.now fields) }
+    ensures { Writes out.old (2 + T.size s.now fields) ((kind_name_place kind ∷ []) ++ input_bytes SourceGraphic ++ T.bytes s.now fields) out.new }
+{
+    put_head(kind, out);
+    fields.put_to(s, out);
 }
 
 // The numbers of Matrix stand beside the enum's place.
@@ -199,18 +236,9 @@ fn put_matrix(matrix: [f32; 20], out: &mut Writer)
     requires { HasRoom out.old 85 }
     ensures { Writes out.old 85 (kind_bytes (spec.ColorMatrix SourceGraphic (spec.Matrix matrix))) out.new }
 {
-    put_head(1, out);
+    put_head(KindName::ColorMatrix, out);
     out.put(0u8);
     put_values(&matrix, out);
-}
-
-#[tactic(auto, unfolding(tree::specs::List::kind_bytes))]
-fn put_color_matrix(s: &[u8], kind: ColorMatrixKind, out: &mut Writer)
-    requires { HasRoom out.old (2 + color_matrix_kind_size (color_matrix_kind_is s.now kind)) }
-    ensures { Writes out.old (2 + color_matrix_kind_size (color_matrix_kind_is s.now kind)) (kind_bytes (spec.ColorMatrix SourceGraphic (color_matrix_kind_is s.now kind))) out.new }
-{
-    put_head(1, out);
-    put_color_matrix_kind(s, kind, out);
 }
 
 // So do the numbers of Table.
@@ -228,7 +256,7 @@ fn put_table_on_colors(table: [f32; 2], out: &mut Writer)
     requires { HasRoom out.old 36 }
     ensures { Writes out.old 36 (kind_bytes (spec.ComponentTransfer SourceGraphic (on_colors (spec.Table table)))) out.new }
 {
-    put_head(2, out);
+    put_head(KindName::ComponentTransfer, out);
     put_table(table, out);
     put_table(table, out);
     put_table(table, out);
@@ -240,44 +268,25 @@ fn put_table_on_alpha(table: [f32; 2], out: &mut Writer)
     requires { HasRoom out.old 16 }
     ensures { Writes out.old 16 (kind_bytes (spec.ComponentTransfer SourceGraphic (on_alpha (spec.Table table)))) out.new }
 {
-    put_head(2, out);
+    put_head(KindName::ComponentTransfer, out);
     out.put(0u8);
     out.put(0u8);
     out.put(0u8);
     put_table(table, out);
 }
 
-#[tactic(auto, unfolding(tree::specs::List::kind_bytes))]
-fn put_on_colors(s: &[u8], f: TransferFunction, out: &mut Writer)
-    requires { HasRoom out.old (2 + component_transfer_size (on_colors (transfer_function_is s.now f))) }
-    ensures { Writes out.old (2 + component_transfer_size (on_colors (transfer_function_is s.now f))) (kind_bytes (spec.ComponentTransfer SourceGraphic (on_colors (transfer_function_is s.now f)))) out.new }
+fn on_colors(f: TransferFunction) -> ComponentTransfer
+    ensures red { result.func_r ≡ f }
+    ensures green { result.func_g ≡ f }
+    ensures blue { result.func_b ≡ f }
+    ensures alpha { result.func_a ≡ Identity }
 {
-    put_head(2, out);
-    let fields = ComponentTransfer {
+    ComponentTransfer {
         func_r: f,
         func_g: f,
         func_b: f,
         func_a: TransferFunction::Identity,
-    };
-    put_component_transfer(s, fields, out);
-}
-
-#[tactic(auto, unfolding(tree::specs::List::kind_bytes))]
-fn put_blur(v: GaussianBlur, out: &mut Writer)
-    requires { HasRoom out.old 10 }
-    ensures { Writes out.old 10 (kind_bytes (spec.GaussianBlur SourceGraphic v)) out.new }
-{
-    put_head(9, out);
-    put_gaussian_blur(v, out);
-}
-
-#[tactic(auto, unfolding(tree::specs::List::kind_bytes))]
-fn put_shadow(v: DropShadow, out: &mut Writer)
-    requires { HasRoom out.old 25 }
-    ensures { Writes out.old 25 (kind_bytes (spec.DropShadow SourceGraphic v)) out.new }
-{
-    put_head(7, out);
-    put_drop_shadow(v, out);
+    }
 }
 
 // Refusals.
@@ -287,9 +296,9 @@ fn record_size(name: FunctionName) -> usize
     ensures { result ≡ size_by (code_by name) }
 {
     match name {
-        FunctionName::Blur => 22,
-        FunctionName::DropShadow => 49,
-        _ => 21,
+        FunctionName::Blur => field::ARGUMENT + usize::from(value_size::LENGTH),
+        FunctionName::DropShadow => field::STD_DEVIATION + usize::from(value_size::LENGTH),
+        _ => field::ARGUMENT + usize::from(marked::NUMBER_SIZE),
     }
 }
 
@@ -297,8 +306,12 @@ fn record_size(name: FunctionName) -> usize
 fn shadow_ok(s: &[u8]) -> bool
     ensures { result ≡ shadow_ok s.now }
 {
-    marked_ok(s, byte(s, field::COLOR_FLAG), field::COLOR, 4)
-        && byte(s, field::DX) <= unit::PERCENT
+    marked_ok(
+        s,
+        byte(s, field::COLOR_FLAG),
+        field::COLOR,
+        field::COLOR_SIZE,
+    ) && byte(s, field::DX) <= unit::PERCENT
         && byte(s, field::DY) <= unit::PERCENT
         && byte(s, field::STD_DEVIATION) <= unit::PERCENT
 }
@@ -312,18 +325,6 @@ fn arguments_ok(s: &[u8], name: FunctionName) -> bool
         FunctionName::DropShadow => shadow_ok(s),
         _ => true,
     }
-}
-
-// Whose record it is, if its bytes are in the layout.
-#[tactic(auto, unfolding(crate::specs::Refusals::function_layout_ok))]
-fn function_name(s: &[u8]) -> Result<FunctionName, Refusal>
-    ensures { MatchResult result (λ name. (code_by name ≡ code_of s.now) × (function_layout_ok s.now ≡ true)) (λ why. (why ≡ Refusal.Malformed) × (function_layout_ok s.now ≡ false)) }
-{
-    let name = FunctionName::try_from(byte(s, field::CODE))?;
-    if s.len() == record_size(name) && arguments_ok(s, name) {
-        return Ok(name);
-    }
-    Err(Refusal::Malformed)
 }
 
 // Every f64 of a record.
@@ -342,84 +343,117 @@ fn function_numbers_ok(s: &[u8], name: FunctionName) -> bool
     }
 }
 
-#[tactic(auto, unfolding(crate::specs::Refusals::function_numbers_ok))]
-fn numbers_ok(s: &[u8], name: FunctionName) -> bool
-    requires { code_by name ≡ code_of s.now }
-    ensures { result ≡ function_numbers_ok (function_record s.now) }
-{
-    is_view_box_length_at(s, field::VIEW_BOX_WIDTH)
-        && is_valid_length_at(s, field::DPI)
-        && is_positive_at(s, field::FONT_SIZE)
-        && function_numbers_ok(s, name)
-}
-
-// Whose record it is, or the first of 2 and 3.
-#[tactic(auto, unfolding(crate::specs::Refusals::function_refusal))]
-fn tested_name(s: &[u8]) -> Result<FunctionName, Refusal>
-    ensures { MatchResult result (λ name. (code_by name ≡ code_of s.now) × (function_refusal s.now ≡ (Ok tt))) (λ why. function_refusal s.now ≡ Err why) }
-{
-    let name = function_name(s)?;
-    if numbers_ok(s, name) {
-        return Ok(name);
+impl<'a> FilterFunction<'a> {
+    // Of a record whose bytes are in the layout.
+    #[tactic(auto, unfolding(crate::specs::Refusals::function_layout_ok))]
+    fn parse(bytes: &'a [u8]) -> Result<FilterFunction<'a>, Refusal>
+        ensures { MatchResult result (λ function. (function.bytes ≡ bytes.entry) × (function_layout_ok bytes.now ≡ true)) (λ why. (why ≡ Refusal.Malformed) × (function_layout_ok bytes.now ≡ false)) }
+    {
+        let name = FunctionName::try_from(byte(bytes, field::CODE))?;
+        if bytes.len() == record_size(name) && arguments_ok(bytes, name) {
+            return Ok(FilterFunction { bytes, name });
+        }
+        Err(Refusal::Malformed)
     }
-    Err(Refusal::BadNumber)
+
+    #[tactic(auto, unfolding(crate::specs::Refusals::function_numbers_ok))]
+    fn numbers_ok(self) -> bool
+        ensures { result ≡ function_numbers_ok (function_record self.entry.bytes.now) }
+    {
+        is_view_box_length_at(self.bytes, field::VIEW_BOX_WIDTH)
+            && is_valid_length_at(self.bytes, field::DPI)
+            && is_positive_at(self.bytes, field::FONT_SIZE)
+            && function_numbers_ok(self.bytes, self.name)
+    }
+
+    // How many bytes the kind has.
+    #[tactic(auto, using(crate::proofs::Lengths::size_of_record), unfolding(crate::specs::Records::function_by, crate::specs::Records::of_amount))]
+    fn kind_size(self) -> usize
+        ensures { result ≡ length (kind_bytes (function_kind (function_record self.entry.bytes.now))) }
+    {
+        match self.name {
+            FunctionName::Grayscale | FunctionName::Sepia => size::HEAD + size::MATRIX,
+            FunctionName::Saturate | FunctionName::HueRotate => {
+                size::HEAD + size::CASE + size::NUMBER
+            }
+            FunctionName::Invert => size::HEAD + 3 * size::TABLE + size::CASE,
+            FunctionName::Opacity => size::HEAD + 3 * size::CASE + size::TABLE,
+            FunctionName::Brightness | FunctionName::Contrast => {
+                size::HEAD + 3 * size::LINEAR + size::CASE
+            }
+            FunctionName::Blur => size::HEAD + 2 * size::NUMBER,
+            FunctionName::DropShadow => size::HEAD + 5 * size::NUMBER + size::COLOR,
+        }
+    }
+
+    // A match and no table of functions: each name's function gives a type of its own.
+    #[tactic(auto, using(crate::proofs::Lengths::size_of_record), unfolding(crate::specs::Records::function_by, crate::specs::Records::of_amount))]
+    fn put_kind(self, out: &mut Writer)
+        requires { HasRoom out.old (length (kind_bytes (function_kind (function_record self.bytes.now)))) }
+        ensures { Writes out.old (length (kind_bytes (function_kind (function_record self.entry.bytes.now)))) (kind_bytes (function_kind (function_record self.entry.bytes.now))) out.new }
+    {
+        let s = self.bytes;
+        let amount = get64(s, field::ARGUMENT);
+        match self.name {
+            FunctionName::Grayscale => put_matrix(convert_grayscale_function(amount), out),
+            FunctionName::Sepia => put_matrix(convert_sepia_function(amount), out),
+            FunctionName::Saturate => {
+                let fields = ColorMatrixKind::Saturate(convert_saturate_function(amount));
+                put_fields(s, KindName::ColorMatrix, fields, out)
+            }
+            FunctionName::HueRotate => {
+                let fields = ColorMatrixKind::HueRotate(convert_hue_rotate_function(amount));
+                put_fields(s, KindName::ColorMatrix, fields, out)
+            }
+            FunctionName::Invert => put_table_on_colors(convert_invert_function(amount), out),
+            FunctionName::Opacity => put_table_on_alpha(convert_opacity_function(amount), out),
+            FunctionName::Brightness => {
+                let fields = on_colors(convert_brightness_function(amount));
+                put_fields(s, KindName::ComponentTransfer, fields, out)
+            }
+            FunctionName::Contrast => {
+                let fields = on_colors(convert_contrast_function(amount));
+                put_fields(s, KindName::ComponentTransfer, fields, out)
+            }
+            FunctionName::Blur => {
+                put_fields(s, KindName::GaussianBlur, convert_blur_function(s), out)
+            }
+            FunctionName::DropShadow => {
+                put_fields(
+                    s,
+                    KindName::DropShadow,
+                    convert_drop_shadow_function(s),
+                    out,
+                )
+            }
+        }
+    }
 }
 
 // The whole call.
 
-#[tactic(auto, using(crate::proofs::Lengths::size_of_record), unfolding(crate::specs::Records::function_by, crate::specs::Records::of_amount))]
-fn kind_size(name: FunctionName) -> usize
-    ensures { (s : List ℕ) → code_by name ≡ code_of s → result ≡ length (kind_bytes (function_kind (function_record s))) }
+// The function of a record, or the first of 2 and 3.
+#[tactic(auto, unfolding(crate::specs::Refusals::function_refusal))]
+fn tested_function(s: &[u8]) -> Result<FilterFunction<'_>, Refusal>
+    ensures { MatchResult result (λ function. (function.bytes ≡ s.entry) × (function_refusal s.now ≡ (Ok tt))) (λ why. function_refusal s.now ≡ Err why) }
 {
-    match name {
-        FunctionName::Grayscale | FunctionName::Sepia => 85,
-        FunctionName::Saturate | FunctionName::HueRotate => 7,
-        FunctionName::Invert => 36,
-        FunctionName::Opacity => 16,
-        FunctionName::Brightness | FunctionName::Contrast => 30,
-        FunctionName::Blur => 10,
-        FunctionName::DropShadow => 25,
+    let function = FilterFunction::parse(s)?;
+    if function.numbers_ok() {
+        return Ok(function);
     }
-}
-
-// The kind of a record that is not refused. A match and no table of functions: each name's function gives a type of its own.
-#[tactic(auto, using(crate::proofs::Lengths::size_of_record), unfolding(crate::specs::Records::function_by, crate::specs::Records::of_amount))]
-fn put_function(s: &[u8], name: FunctionName, out: &mut Writer)
-    requires named { code_by name ≡ code_of s.now }
-    requires room { HasRoom out.old (length (kind_bytes (function_kind (function_record s.now)))) }
-    ensures { Writes out.old (length (kind_bytes (function_kind (function_record s.now)))) (kind_bytes (function_kind (function_record s.now))) out.new }
-{
-    let amount = get64(s, field::ARGUMENT);
-    match name {
-        FunctionName::Grayscale => put_matrix(convert_grayscale_function(amount), out),
-        FunctionName::Sepia => put_matrix(convert_sepia_function(amount), out),
-        FunctionName::Saturate => {
-            let x = convert_saturate_function(amount);
-            put_color_matrix(s, ColorMatrixKind::Saturate(x), out)
-        }
-        FunctionName::HueRotate => {
-            let x = convert_hue_rotate_function(amount);
-            put_color_matrix(s, ColorMatrixKind::HueRotate(x), out)
-        }
-        FunctionName::Invert => put_table_on_colors(convert_invert_function(amount), out),
-        FunctionName::Opacity => put_table_on_alpha(convert_opacity_function(amount), out),
-        FunctionName::Brightness => put_on_colors(s, convert_brightness_function(amount), out),
-        FunctionName::Contrast => put_on_colors(s, convert_contrast_function(amount), out),
-        FunctionName::Blur => put_blur(convert_blur_function(s), out),
-        FunctionName::DropShadow => put_shadow(convert_drop_shadow_function(s), out),
-    }
+    Err(Refusal::BadNumber)
 }
 
 // The length of a record's kind, or why there is none.
 fn convert_record(record: &[u8], out: &mut [u8]) -> Result<usize, Refusal>
     ensures { ConvertedFunction «record».now out.old (answer_of result) out.new }
 {
-    let name = tested_name(record)?;
-    let size = kind_size(name);
+    let function = tested_function(record)?;
+    let size = function.kind_size();
     if out.len() < size {
         return Err(Refusal::ShortOutput);
     }
-    put_function(record, name, &mut Writer::new(out));
+    function.put_kind(&mut Writer::new(out));
     Ok(size)
 }
 

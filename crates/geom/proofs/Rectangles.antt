@@ -1,9 +1,8 @@
 -- What holds of a rectangle that exists: its edges are finite, and its width and height are finite and above zero. Assumes nothing.
 use Rattle.std.specs.Prelude.{None, Option, Some}
+use Rattle.std.proofs.lemmas.Option.{none-some}
 use mathlib.Core.Path.{◌≡◌, subst}
 use mathlib.Core.Bool.{Bool, true, false, ◌&&◌}
-use Prim.Native.Nat.{ℕ}
-use native.Mathlib.Omega.{arith}
 use lib.Dec.{T}
 use lib.Ieee.{Float, binary32, binary64, add, sub, mul, lt, fits}
 use lib.Ieee.Scale.{finite}
@@ -20,12 +19,9 @@ use Rattle.geom.specs.Geometry.{zero_f32, largest, side, pick_rect, is_rect, of_
 abbrev pub Made : Option Rect → Type 0
 Made m = (q : Rect) → m ≡ Some q → T (is_rect q)
 
-zero_one : ◌≡◌ {A = ℕ} 0 1 → ⊥
-zero_one z = omega arith
-
 picked : (p : Bool) (x : Rect) (P : Rect → Type 0) → (T p → P x) → (q : Rect) → pick_rect p (Some x) None ≡ Some q → P q
 picked true x P f q e = let i : x ≡ q = cc in subst P i (f tt)
-picked false x P f q e = let z : ◌≡◌ {A = ℕ} 0 1 = cc in absurd (zero_one z)
+picked false x P f q e = absurd (none-some q e)
 
 pub made_edges : (l t r b : Float) → Made (of_edges l t r b)
 unfolding of_edges

@@ -31,7 +31,7 @@ pub struct Size {
 pub fn is_side(a: f32, b: f32) -> bool
     ensures { result ≡ side a b }
 {
-    a < b && (b as f64) - (a as f64) < LARGEST
+    a < b && f64::from(b) - f64::from(a) < LARGEST
 }
 
 // Whether x is a length: above zero and finite.
@@ -55,15 +55,13 @@ impl Rect {
     pub fn from_ltrb(left: f32, top: f32, right: f32, bottom: f32) -> Option<Rect>
         ensures { result ≡ of_edges left top right bottom }
     {
-        if is_side(left, right) && is_side(top, bottom) {
-            return Some(Rect {
-                left,
-                top,
-                right,
-                bottom,
-            });
-        }
-        None
+        let rect = Rect {
+            left,
+            top,
+            right,
+            bottom,
+        };
+        (is_side(left, right) && is_side(top, bottom)).then_some(rect)
     }
 
     // The far edges are sums, each rounded once.

@@ -1,4 +1,5 @@
-// Bytes as lower-case hexadecimal digits.
+// Bytes as lower-case hexadecimal digits. By hand, though the kit has a crate `hex`: the programs would rest on one library more than std, and its `encode_to_slice` wants an output cut to
+// size out of the writer and gives a Result that can't be an error here.
 #![tactic(auto)]
 
 ghost use Rattle.std.specs.Prelude.{◌≡◌, [], ◌∷◌, ◌++◌, ◌+◌, ◌*◌, ◌≤◌, length};

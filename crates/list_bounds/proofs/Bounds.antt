@@ -14,7 +14,8 @@ use Rattle.region.specs.declared.Frame.{Frame}
 use Rattle.region.specs.Region.{filter_region_of, frame_of}
 use Rattle.region.proofs.Regions.{frame_sound}
 use Rattle.sheet_check.specs.Refusals.{first_refusal}
-use Rattle.sheet_accepted.proofs.Accepted.{passed, short_sheet, few_nodes, nodes_length, accepted_nodes}
+use Rattle.svgtree.proofs.Following.{nodes_length}
+use Rattle.sheet_accepted.proofs.Accepted.{passed, short_sheet, few_nodes, accepted_nodes}
 use Rattle.child.specs.Child.{Child}
 use Rattle.chain.specs.Chain.{kept, chain}
 use Rattle.naming.specs.Names.{start}

@@ -45,7 +45,7 @@ use Rattle.elements.specs.Elements as element
 use Rattle.chain.specs.Chain as chain
 use Rattle.chain.specs.Chain.{Step, pass, end, count, kind_step, region_step, step_of, Chain, kept, keep_first, follow}
 use Rattle.ranges.proofs.Children.{All, by_tag_lem}
-use Rattle.num.proofs.Each.{◌and◌}
+use Rattle.num.proofs.Each.{choose, ◌and◌}
 use Rattle.list_bounds.proofs.Lists.{table_bytes, tables_bytes, varying, children_long}
 use Rattle.list_bounds.proofs.Sheets.{value_numbers, attributes_numbers, node_numbers, nodes_numbers}
 
@@ -78,10 +78,6 @@ numbers_long : (n : Node) (id : ℕ) → ListLong (node_numbers n) (numbers_of n
 numbers_long n id = numbers_in_lem (node_numbers n) (value_under id n.attributes) (lookup_long id n.attributes)
 
 -- ---- feComponentTransfer: a child is the function of one channel
-
-choose : {A : Type 0} (P : A → Type 0) (b : Bool) (x y : A) → P x → P y → P (cond b x y)
-choose P true x y p q = p
-choose P false x y p q = q
 
 abbrev FunctionLong : ℕ → Option TransferFunction → Type 0
 FunctionLong w None = Unit {0}

@@ -25,7 +25,8 @@ use Rattle.naming.specs.Inputs.{resolve}
 use Rattle.list_primitives.specs.Primitives.{primitive_of, primitives_from}
 use Rattle.list_read.specs.Records.{form1}
 use Rattle.list_read.specs.Write.{input_fits, inputs_fit}
-use Rattle.list_read.proofs.Forms.{lawful1, and_left, and_right, text_size}
+use Rattle.std.proofs.lemmas.Bool.{and_parts}
+use Rattle.list_read.proofs.Forms.{lawful1, text_size}
 use Rattle.list_read.proofs.Sizes.{input_size, inputs_size}
 use Rattle.list_read_back.specs.Within.{ColorMatrixWithin, KindWithin, Within, AllWithin}
 
@@ -96,10 +97,10 @@ input_long i h = input_size form1 lawful1 i h
 inputs_long : (i : Inputs Input) → inputs_fit form1 (input_list i) ≡ true → length (inputs_bytes input_bytes i) ≤ inputs_most i
 unfolding inputs_fit input_bytes bytes16
 inputs_long Nothing h = omega arith
-inputs_long (One a) h = input_long a (and_left (input_fits form1 a) true h)
+inputs_long (One a) h = input_long a (and_parts (input_fits form1 a) true h).0
 inputs_long (Two a b) h =
-    let k = and_right (input_fits form1 a) _ h in
-    omega (arith, length-append (input_bytes a) (input_bytes b), input_long a (and_left (input_fits form1 a) _ h), input_long b (and_left (input_fits form1 b) true k))
+    let k = (and_parts (input_fits form1 a) _ h).1 in
+    omega (arith, length-append (input_bytes a) (input_bytes b), input_long a (and_parts (input_fits form1 a) _ h).0, input_long b (and_parts (input_fits form1 b) true k).0)
 inputs_long (Vec inputs) h = omega (arith, inputs_size form1 lawful1 inputs h)
 
 -- ---- the fields

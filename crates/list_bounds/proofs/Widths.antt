@@ -17,7 +17,7 @@ use Rattle.tree.specs.Sizes.{total}
 use Rattle.tree.proofs.Lengths.{length_list}
 use Rattle.list_read.specs.Records.{form1, text_fits}
 use Rattle.list_read.specs.Write.{inputs_fit}
-use Rattle.list_read.proofs.Forms.{and_left, and_right}
+use Rattle.std.proofs.lemmas.Bool.{and_parts}
 use Rattle.list_read_back.specs.Within.{TransferWithin, ColorMatrixWithin, KindWithin, AllWithin}
 use Rattle.list_bounds.specs.Bounds.{most_bytes, pair_numbers, table_counts, matrix_counts, kind_counts, input_counts, record_counts, list_counts, EachBelow}
 
@@ -48,14 +48,14 @@ pairs_fit ps h = pair_numbers_lem 4294967296 (2 + 8 * length ps) (map primitive_
 -- ---- counts
 
 text_count : (t : Name) → text_fits t ≡ true → length t < 65536
-text_count t h = omega (arith, leb-true (length t) 255 (and_left (leb (length t) 255) (utf8 t) h))
+text_count t h = omega (arith, leb-true (length t) 255 (and_parts (leb (length t) 255) (utf8 t) h).0)
 
 input_counts_lem : (is : List Input) → inputs_fit form1 is ≡ true → EachBelow 65536 (input_counts is)
 unfolding inputs_fit
 input_counts_lem [] h = tt
-input_counts_lem (SourceGraphic ∷ is) h = input_counts_lem is (and_right true _ h)
-input_counts_lem (SourceAlpha ∷ is) h = input_counts_lem is (and_right true _ h)
-input_counts_lem (Reference t ∷ is) h = (text_count t (and_left (text_fits t) _ h), input_counts_lem is (and_right (text_fits t) _ h))
+input_counts_lem (SourceGraphic ∷ is) h = input_counts_lem is (and_parts true _ h).1
+input_counts_lem (SourceAlpha ∷ is) h = input_counts_lem is (and_parts true _ h).1
+input_counts_lem (Reference t ∷ is) h = (text_count t (and_parts (text_fits t) _ h).0, input_counts_lem is (and_parts (text_fits t) _ h).1)
 
 table_counts_lem : (v : TransferFunction) → TransferWithin v → EachBelow 65536 (table_counts v)
 table_counts_lem Identity h = tt

@@ -24,12 +24,12 @@ joined_first false b ps = tt
 
 begins_first : (t : List ℕ) → begins t ≡ true → WordFirst (parts t)
 unfolding begins in_word parts
-begins_first [] e = let z : ◌≡◌ {A = ℕ} 0 1 = cc in absurd (omega arith)
+begins_first [] e = cc
 begins_first (b ∷ t) e = go (is_space b) (eqb b 44) e
   where
     go : (space comma' : Bool) → (not space && not comma') ≡ true → WordFirst (cond space (parts t) (cond comma' (comma_part ∷ parts t) (joined (begins t) b (parts t))))
-    go true q e = let z : ◌≡◌ {A = ℕ} 0 1 = cc in absurd (omega arith)
-    go false true e = let z : ◌≡◌ {A = ℕ} 0 1 = cc in absurd (omega arith)
+    go true q e = cc
+    go false true e = cc
     go false false e = joined_first (begins t) b (parts t)
 
 -- a byte of a word adds no word to one that it touches, and else one

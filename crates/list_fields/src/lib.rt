@@ -1,54 +1,52 @@
-// The parts of a kind: its place in the declaration, its inputs, and its other fields, their size and their bytes. No names occur here.
+// The parts of a kind: which kind it is, its inputs, and its other fields, their size and their bytes. No results' names occur here.
 #![tactic(auto)]
 
-ghost use Rattle.std.specs.Prelude.{◌≡◌, ◌+◌, ◌^◌, ◌≤◌, ◌<◌, length};
+ghost use Rattle.std.specs.Prelude.{◌≡◌, ℕ, List, ◌+◌, ◌^◌, ◌≤◌, ◌<◌, length};
 ghost use Rattle.bits.specs.Writer.{HasRoom, Writes};
-ghost use Rattle.list_fields.specs.Means.{place_in, fields_in, InputsOf};
+ghost use Rattle.tree.specs.Places.{kind_name_place, kind_place};
+ghost use Rattle.child.specs.Means.{kind_is};
+ghost use Rattle.list_fields.specs.Means.{fields_in, InputsOf};
 
 use bits::Text;
 use bits::writer::Writer;
-use child::Kind;
-use list_values::{
-    color_matrix_kind_size, component_transfer_size, composite_operator_size, convolve_matrix_size,
-    diffuse_lighting_size, put_color_matrix_kind, put_component_transfer, put_composite_operator,
-    put_convolve_matrix, put_diffuse_lighting, put_displacement_map, put_drop_shadow, put_flood,
-    put_gaussian_blur, put_morphology, put_offset, put_specular_lighting, put_turbulence,
-    specular_lighting_size,
-};
+use child::{Kind, Merge};
+use list_values::ToList;
+use tree::KindName;
 
-// A kind's inputs, as they stand in the sheet: none, one, two, or those of some nodes from a number on.
+// A kind's inputs, as they stand in the sheet: none, one, two, or those of a merge's nodes.
 #[derive(Clone, Copy)]
 pub enum Inputs {
     Nothing,
     One(Option<Text>),
     Two(Option<Text>, Option<Text>),
-    Run(u16, u16),
+    Merge(Merge),
 }
 
-// A kind's place in the declaration. By hand, since an enum whose variants hold fields has no `as`.
-pub fn kind_place(kind: Kind) -> u8
-    ensures { result ≡ place_in kind }
+// A kind without its fields. A match, since an enum whose variants hold fields has no `as`.
+pub fn kind_name(kind: Kind) -> KindName
+    ensures { (s : List ℕ) → kind_name_place result ≡ kind_place (kind_is s kind) }
 {
     match kind {
-        Kind::Blend(_) => 0,
-        Kind::ColorMatrix(_) => 1,
-        Kind::ComponentTransfer(_) => 2,
-        Kind::Composite(_) => 3,
-        Kind::ConvolveMatrix(_) => 4,
-        Kind::DiffuseLighting(_) => 5,
-        Kind::DisplacementMap(_) => 6,
-        Kind::DropShadow(_) => 7,
-        Kind::Flood(_) => 8,
-        Kind::GaussianBlur(_) => 9,
-        Kind::Merge(_) => 11,
-        Kind::Morphology(_) => 12,
-        Kind::Offset(_) => 13,
-        Kind::SpecularLighting(_) => 14,
-        Kind::Tile(_) => 15,
-        Kind::Turbulence(_) => 16,
+        Kind::Blend(_) => KindName::Blend,
+        Kind::ColorMatrix(_) => KindName::ColorMatrix,
+        Kind::ComponentTransfer(_) => KindName::ComponentTransfer,
+        Kind::Composite(_) => KindName::Composite,
+        Kind::ConvolveMatrix(_) => KindName::ConvolveMatrix,
+        Kind::DiffuseLighting(_) => KindName::DiffuseLighting,
+        Kind::DisplacementMap(_) => KindName::DisplacementMap,
+        Kind::DropShadow(_) => KindName::DropShadow,
+        Kind::Flood(_) => KindName::Flood,
+        Kind::GaussianBlur(_) => KindName::GaussianBlur,
+        Kind::Merge(_) => KindName::Merge,
+        Kind::Morphology(_) => KindName::Morphology,
+        Kind::Offset(_) => KindName::Offset,
+        Kind::SpecularLighting(_) => KindName::SpecularLighting,
+        Kind::Tile(_) => KindName::Tile,
+        Kind::Turbulence(_) => KindName::Turbulence,
     }
 }
 
+// An arm for each kind, since `v` has a type of its own in each.
 pub fn inputs_of(kind: Kind) -> Inputs
     ensures { InputsOf kind result }
 {
@@ -63,7 +61,7 @@ pub fn inputs_of(kind: Kind) -> Inputs
         Kind::DropShadow(v) => Inputs::One(v.input),
         Kind::Flood(_) => Inputs::Nothing,
         Kind::GaussianBlur(v) => Inputs::One(v.input),
-        Kind::Merge(v) => Inputs::Run(v.first, v.count),
+        Kind::Merge(v) => Inputs::Merge(v),
         Kind::Morphology(v) => Inputs::One(v.input),
         Kind::Offset(v) => Inputs::One(v.input),
         Kind::SpecularLighting(v) => Inputs::One(v.input),
@@ -72,53 +70,54 @@ pub fn inputs_of(kind: Kind) -> Inputs
     }
 }
 
-// How many bytes a kind's other fields are.
+// How many bytes a kind's other fields are. A match here and in `put_fields`, and no table of functions: the fields of each kind are of a type of their own. No `dyn ToList`
+// either: its methods take self by value, and Blend, Merge and Tile have none.
 #[tactic(auto, using(crate::proofs::Sizes::sizes))]
 pub fn fields_size(s: &[u8], kind: Kind) -> u32
     ensures { (result ≡ length (fields_in s.now kind)) × (result < 2 ^ 21) }
 {
     match kind {
         Kind::Blend(_) => 1,
-        Kind::ColorMatrix(v) => color_matrix_kind_size(s, v.kind),
-        Kind::ComponentTransfer(v) => component_transfer_size(s, v.fields),
-        Kind::Composite(v) => composite_operator_size(v.operator),
-        Kind::ConvolveMatrix(v) => convolve_matrix_size(s, v.fields),
-        Kind::DiffuseLighting(v) => diffuse_lighting_size(v.fields),
-        Kind::DisplacementMap(_) => 6,
-        Kind::DropShadow(_) => 23,
-        Kind::Flood(_) => 7,
-        Kind::GaussianBlur(_) => 8,
+        Kind::ColorMatrix(v) => v.fields.size(s),
+        Kind::ComponentTransfer(v) => v.fields.size(s),
+        Kind::Composite(v) => v.fields.size(s),
+        Kind::ConvolveMatrix(v) => v.fields.size(s),
+        Kind::DiffuseLighting(v) => v.fields.size(s),
+        Kind::DisplacementMap(v) => v.fields.size(s),
+        Kind::DropShadow(v) => v.fields.size(s),
+        Kind::Flood(v) => v.size(s),
+        Kind::GaussianBlur(v) => v.fields.size(s),
         Kind::Merge(_) => 0,
-        Kind::Morphology(_) => 9,
-        Kind::Offset(_) => 8,
-        Kind::SpecularLighting(v) => specular_lighting_size(v.fields),
+        Kind::Morphology(v) => v.fields.size(s),
+        Kind::Offset(v) => v.fields.size(s),
+        Kind::SpecularLighting(v) => v.fields.size(s),
         Kind::Tile(_) => 0,
-        Kind::Turbulence(_) => 18,
+        Kind::Turbulence(v) => v.size(s),
     }
 }
 
-// A match and no table of functions: each kind's writer takes fields of a type of its own.
+// A match and no table of functions: the fields of each kind are of a type of their own.
 #[tactic(auto, using(crate::proofs::Sizes::sizes))]
 pub fn put_fields(s: &[u8], kind: Kind, out: &mut Writer)
     requires { HasRoom out.old (length (fields_in s.now kind)) }
     ensures { Writes out.old (length (fields_in s.now kind)) (fields_in s.now kind) out.new }
 {
     match kind {
-        Kind::Blend(v) => out.put(u8::from(v.mode)),
-        Kind::ColorMatrix(v) => put_color_matrix_kind(s, v.kind, out),
-        Kind::ComponentTransfer(v) => put_component_transfer(s, v.fields, out),
-        Kind::Composite(v) => put_composite_operator(v.operator, out),
-        Kind::ConvolveMatrix(v) => put_convolve_matrix(s, v.fields, out),
-        Kind::DiffuseLighting(v) => put_diffuse_lighting(v.fields, out),
-        Kind::DisplacementMap(v) => put_displacement_map(v.fields, out),
-        Kind::DropShadow(v) => put_drop_shadow(v.fields, out),
-        Kind::Flood(v) => put_flood(v, out),
-        Kind::GaussianBlur(v) => put_gaussian_blur(v.fields, out),
+        Kind::Blend(v) => out.put(u8::from(v.fields)),
+        Kind::ColorMatrix(v) => v.fields.put_to(s, out),
+        Kind::ComponentTransfer(v) => v.fields.put_to(s, out),
+        Kind::Composite(v) => v.fields.put_to(s, out),
+        Kind::ConvolveMatrix(v) => v.fields.put_to(s, out),
+        Kind::DiffuseLighting(v) => v.fields.put_to(s, out),
+        Kind::DisplacementMap(v) => v.fields.put_to(s, out),
+        Kind::DropShadow(v) => v.fields.put_to(s, out),
+        Kind::Flood(v) => v.put_to(s, out),
+        Kind::GaussianBlur(v) => v.fields.put_to(s, out),
         Kind::Merge(_) => {}
-        Kind::Morphology(v) => put_morphology(v.fields, out),
-        Kind::Offset(v) => put_offset(v.fields, out),
-        Kind::SpecularLighting(v) => put_specular_lighting(v.fields, out),
+        Kind::Morphology(v) => v.fields.put_to(s, out),
+        Kind::Offset(v) => v.fields.put_to(s, out),
+        Kind::SpecularLighting(v) => v.fields.put_to(s, out),
         Kind::Tile(_) => {}
-        Kind::Turbulence(v) => put_turbulence(v, out),
+        Kind::Turbulence(v) => v.put_to(s, out),
     }
 }

@@ -1,7 +1,8 @@
 -- A record, by what is left after its parts. Assumes nothing.
-use Rattle.std.proofs.Common.{ℕ, ◌≡◌, refl, sym, ap, ◌∙◌, List, [], ◌∷◌, ◌++◌, Bool, true, false, length, Option, None, Some, arith}
+use Rattle.std.proofs.lemmas.List.{get_or_past}
+use Rattle.std.proofs.Common.{ℕ, ◌<◌, ◌⊎◌, inl, inr, ◌≡◌, refl, sym, ap, ◌∙◌, List, [], ◌∷◌, ◌++◌, Bool, true, false, length, Option, None, Some, arith}
 use Rattle.list_read.specs.Read.{Got, outside, got, and_then, only_if, read_byte, read_below, read_many, read_text}
-use Rattle.list_read.specs.Layout.{byte_below, Field, item, enum, Layout, layout_of, walk_item, walk_field, walk_fields, at_end}
+use Rattle.list_read.specs.Layout.{byte_below, Field, item, enum, Layout, layouts, layout_of, walk_item, walk_field, walk_fields, at_end}
 use Rattle.tree.specs.Input.{Name}
 use Rattle.list_read.specs.Records.{read_inputs, read_kind, read_record}
 use Rattle.list_read.specs.Forms.{form_of}
@@ -89,4 +90,9 @@ module _ (form : ListForm) where
   kind_missing [] h = refl
   kind_missing (k ∷ xs) h = absurd (omega arith)
 
-pub ruleset record_parts = (record_is, kind_none, kind_missing)
+-- Image and the bytes behind the last place are outside the layout
+pub unknown_outside : (k : ℕ) → (k ≡ 10) ⊎ (16 < k) → layout_of k ≡ None
+unfolding layout_of
+unknown_outside k h = elim h [ inl e ↦ rw e refl | inr past ↦ get_or_past layouts k None past ]
+
+pub ruleset record_parts = (record_is, kind_none, kind_missing, unknown_outside)

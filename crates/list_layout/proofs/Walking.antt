@@ -9,9 +9,9 @@ use Rattle.list_read.specs.Forms.{ReferenceIn, form_of}
 use Rattle.list_read.specs.declared.ListForm.{ListForm}
 use Rattle.list_read.specs.declared.ListForm.TheVariants.{Two}
 use Rattle.tree.specs.Input.{InputOf}
-use Rattle.bits.specs.Bytes.{bytes_from, le16}
+use Rattle.bits.specs.Bytes.{bytes_from}
 use Rattle.bits.proofs.Runs.{bytes_from_part}
-use Rattle.std.specs.List.{IsSplitAt}
+use Rattle.std.specs.List.{IsSplitAt, slice_index}
 use Rattle.std.specs.Slice.{IsGetRangeResult}
 use Rattle.list_layout.specs.After.{rest_of, onward, after_bytes, after_item, after_items, after_field, after_reference, after_inputs}
 
@@ -126,11 +126,12 @@ read16_short [] h = refl
 read16_short (a ∷ []) h = refl
 read16_short (a ∷ b ∷ xs) h = absurd (omega arith)
 
-pub read16_is : (xs : List ℕ) → 2 ≤ length xs → read16 xs ≡ got (le16 (take 2 xs) 0) (drop 2 xs)
-unfolding read16 le16
-read16_is [] h = absurd (omega arith)
-read16_is (a ∷ []) h = absurd (omega arith)
-read16_is (a ∷ b ∷ xs) h = refl
+-- the two bytes at the front, as `split_first_chunk` gives them
+pub read16_is : (xs front rest : List ℕ) (k : ℕ) → front ≡ take 2 xs → rest ≡ drop 2 xs → 2 ≤ length xs → k ≡ slice_index front 0 + slice_index front 1 * 256 → got k rest ≡ read16 xs
+unfolding read16
+read16_is [] front rest k f r h e = absurd (omega arith)
+read16_is (a ∷ []) front rest k f r h e = absurd (omega arith)
+read16_is (a ∷ b ∷ xs) front rest k f r h e = rw (e, f, r) refl
 
 pub word_left : (xs : List ℕ) → after_bytes 2 (Some xs) ≡ after_reference Two (Some xs)
 unfolding read_many read16

@@ -6,63 +6,10 @@ ghost use Rattle.std.specs.Prelude.{◌≡◌, ◌+◌, ◌*◌, ◌≤◌, ◌<
 ghost use Rattle.list_read.specs.Read.{read16, read_below};
 ghost use Rattle.list_read.specs.Layout.{exactly, counted, byte_below, any_bytes, f32s, vec, option, color_matrix_kind, transfer_function, composite_operator, light_source, layout_of};
 ghost use Rattle.list_layout.specs.After.{got_of, after_bytes, after_item, after_field, after_kind_fields, after_text, after_reference, after_input, after_inputs, after_kind_inputs, ended, record_in_layout, records_in_layout, counted_in_layout, in_layout};
-ghost use Rattle.list_layout.specs.Kinds.{place_of, KindAt};
+ghost use Rattle.tree.specs.Places.{kind_name_place};
 
 use list_read::ListForm;
-
-// The kinds of primitive that can stand in a list: all but Image.
-#[derive(Clone, Copy)]
-enum Kind {
-    Blend,
-    ColorMatrix,
-    ComponentTransfer,
-    Composite,
-    ConvolveMatrix,
-    DiffuseLighting,
-    DisplacementMap,
-    DropShadow,
-    Flood,
-    GaussianBlur,
-    Merge,
-    Morphology,
-    Offset,
-    SpecularLighting,
-    Tile,
-    Turbulence,
-}
-
-// A byte that is the place of no such kind.
-#[derive(Clone, Copy)]
-struct UnknownKind;
-
-impl TryFrom<u8> for Kind {
-    type Error = UnknownKind;
-
-    ghost try_from_gives = { KindAt };
-
-    #[tactic(auto, unfolding(list_read::specs::Layout::layout_of), using(std::proofs::lemmas::List::get_or_past))]
-    fn try_from(place: u8) -> Result<Self, UnknownKind> {
-        match place {
-            0 => Ok(Kind::Blend),
-            1 => Ok(Kind::ColorMatrix),
-            2 => Ok(Kind::ComponentTransfer),
-            3 => Ok(Kind::Composite),
-            4 => Ok(Kind::ConvolveMatrix),
-            5 => Ok(Kind::DiffuseLighting),
-            6 => Ok(Kind::DisplacementMap),
-            7 => Ok(Kind::DropShadow),
-            8 => Ok(Kind::Flood),
-            9 => Ok(Kind::GaussianBlur),
-            11 => Ok(Kind::Merge),
-            12 => Ok(Kind::Morphology),
-            13 => Ok(Kind::Offset),
-            14 => Ok(Kind::SpecularLighting),
-            15 => Ok(Kind::Tile),
-            16 => Ok(Kind::Turbulence),
-            10 | 17..=255 => Err(UnknownKind), // 10 is Image
-        }
-    }
-}
+use tree::KindName;
 
 // The items of the layout: bytes of any value, numbers, a byte below a bound, a Vec of numbers, an Option of a number.
 
@@ -85,8 +32,8 @@ fn after_numbers(s: &[u8], n: u16) -> Option<&[u8]>
 fn read16(s: &[u8]) -> Option<(u16, &[u8])>
     ensures { got_of result ≡ read16 s.now }
 {
-    let (number, s) = s.split_at_checked(2)?;
-    Some((bits::get16(number, 0), s))
+    let (number, s) = s.split_first_chunk::<2>()?;
+    Some((u16::from_le_bytes(*number), s))
 }
 
 #[tactic(auto, unfolding(list_read::specs::Read::read_below))]
@@ -100,6 +47,7 @@ fn read_below(s: &[u8], bound: u8) -> Option<(u8, &[u8])>
     }
 }
 
+// A fieldless enum or a bool, by how many cases it has: only whether the byte is the place of one is asked, so none is made.
 #[tactic(auto, unfolding(list_read::specs::Layout::walk_item))]
 fn after_byte_below(s: &[u8], bound: u8) -> Option<&[u8]>
     ensures { option_copied result ≡ after_item (byte_below bound) (Some s.now) }
@@ -113,7 +61,7 @@ fn after_vec(s: &[u8], low: u16, high: u16) -> Option<&[u8]>
     ensures { option_copied result ≡ after_item (vec low high) (Some s.now) }
 {
     let (n, s) = read16(s)?;
-    if n < low || high < n {
+    if !(low..=high).contains(&n) {
         return None;
     }
     after_numbers(s, n)
@@ -127,7 +75,8 @@ fn after_option(s: &[u8]) -> Option<&[u8]>
     after_numbers(s, u16::from(n))
 }
 
-// The enums whose cases hold numbers, by the place of the case. An enum decoded from the place would be no plainer: each place is named once, here.
+// The enums whose cases hold numbers, by the place of the case. An enum decoded from the place would be no plainer: it would name each place a second time, in
+// a match as long as this one, and its error could not come, since `read_below` has refused the places behind the last.
 
 #[tactic(auto, using(crate::proofs::Walking::no_case))]
 fn after_color_matrix_kind(s: &[u8]) -> Option<&[u8]>
@@ -184,7 +133,7 @@ fn after_light_source(s: &[u8]) -> Option<&[u8]>
 // The fields of each kind, after its inputs.
 
 fn after_component_transfer(s: &[u8]) -> Option<&[u8]>
-    ensures { option_copied result ≡ after_kind_fields (layout_of (place_of Kind.ComponentTransfer)) (Some s.now) }
+    ensures { option_copied result ≡ after_kind_fields (layout_of (kind_name_place KindName.ComponentTransfer)) (Some s.now) }
 {
     let s = after_transfer_function(s)?;
     let s = after_transfer_function(s)?;
@@ -193,7 +142,7 @@ fn after_component_transfer(s: &[u8]) -> Option<&[u8]>
 }
 
 fn after_convolve_matrix(s: &[u8]) -> Option<&[u8]>
-    ensures { option_copied result ≡ after_kind_fields (layout_of (place_of Kind.ConvolveMatrix)) (Some s.now) }
+    ensures { option_copied result ≡ after_kind_fields (layout_of (kind_name_place KindName.ConvolveMatrix)) (Some s.now) }
 {
     let s = after_bytes(s, 16)?;
     let s = after_vec(s, 0, 1024)?;
@@ -203,7 +152,7 @@ fn after_convolve_matrix(s: &[u8]) -> Option<&[u8]>
 }
 
 fn after_displacement_map(s: &[u8]) -> Option<&[u8]>
-    ensures { option_copied result ≡ after_kind_fields (layout_of (place_of Kind.DisplacementMap)) (Some s.now) }
+    ensures { option_copied result ≡ after_kind_fields (layout_of (kind_name_place KindName.DisplacementMap)) (Some s.now) }
 {
     let s = after_numbers(s, 1)?;
     let s = after_byte_below(s, 4)?;
@@ -211,7 +160,7 @@ fn after_displacement_map(s: &[u8]) -> Option<&[u8]>
 }
 
 fn after_drop_shadow(s: &[u8]) -> Option<&[u8]>
-    ensures { option_copied result ≡ after_kind_fields (layout_of (place_of Kind.DropShadow)) (Some s.now) }
+    ensures { option_copied result ≡ after_kind_fields (layout_of (kind_name_place KindName.DropShadow)) (Some s.now) }
 {
     let s = after_numbers(s, 4)?;
     let s = after_bytes(s, 3)?;
@@ -219,21 +168,21 @@ fn after_drop_shadow(s: &[u8]) -> Option<&[u8]>
 }
 
 fn after_flood(s: &[u8]) -> Option<&[u8]>
-    ensures { option_copied result ≡ after_kind_fields (layout_of (place_of Kind.Flood)) (Some s.now) }
+    ensures { option_copied result ≡ after_kind_fields (layout_of (kind_name_place KindName.Flood)) (Some s.now) }
 {
     let s = after_bytes(s, 3)?;
     after_numbers(s, 1)
 }
 
 fn after_morphology(s: &[u8]) -> Option<&[u8]>
-    ensures { option_copied result ≡ after_kind_fields (layout_of (place_of Kind.Morphology)) (Some s.now) }
+    ensures { option_copied result ≡ after_kind_fields (layout_of (kind_name_place KindName.Morphology)) (Some s.now) }
 {
     let s = after_byte_below(s, 2)?;
     after_numbers(s, 2)
 }
 
 fn after_turbulence(s: &[u8]) -> Option<&[u8]>
-    ensures { option_copied result ≡ after_kind_fields (layout_of (place_of Kind.Turbulence)) (Some s.now) }
+    ensures { option_copied result ≡ after_kind_fields (layout_of (kind_name_place KindName.Turbulence)) (Some s.now) }
 {
     let s = after_numbers(s, 2)?;
     let s = after_bytes(s, 8)?;
@@ -250,24 +199,26 @@ fn after_lighting(s: &[u8], n: u16) -> Option<&[u8]>
     after_light_source(s)
 }
 
-fn after_fields(s: &[u8], kind: Kind) -> Option<&[u8]>
-    ensures { option_copied result ≡ after_kind_fields (layout_of (place_of kind)) (Some s.now) }
+// A match, and no table of the layouts as data: the kinds are a closed set, and data would need an interpreter, which is the walk that `layout_of` is given in
+// specs/ once more.
+fn after_fields(s: &[u8], kind: KindName) -> Option<&[u8]>
+    ensures { option_copied result ≡ after_kind_fields (layout_of (kind_name_place kind)) (Some s.now) }
 {
     match kind {
-        Kind::Blend => after_byte_below(s, 16),
-        Kind::ColorMatrix => after_color_matrix_kind(s),
-        Kind::ComponentTransfer => after_component_transfer(s),
-        Kind::Composite => after_composite_operator(s),
-        Kind::ConvolveMatrix => after_convolve_matrix(s),
-        Kind::DiffuseLighting => after_lighting(s, 2),
-        Kind::DisplacementMap => after_displacement_map(s),
-        Kind::DropShadow => after_drop_shadow(s),
-        Kind::Flood => after_flood(s),
-        Kind::GaussianBlur | Kind::Offset => after_numbers(s, 2),
-        Kind::Merge | Kind::Tile => Some(s),
-        Kind::Morphology => after_morphology(s),
-        Kind::SpecularLighting => after_lighting(s, 3),
-        Kind::Turbulence => after_turbulence(s),
+        KindName::Blend => after_byte_below(s, 16),
+        KindName::ColorMatrix => after_color_matrix_kind(s),
+        KindName::ComponentTransfer => after_component_transfer(s),
+        KindName::Composite => after_composite_operator(s),
+        KindName::ConvolveMatrix => after_convolve_matrix(s),
+        KindName::DiffuseLighting => after_lighting(s, 2),
+        KindName::DisplacementMap => after_displacement_map(s),
+        KindName::DropShadow => after_drop_shadow(s),
+        KindName::Flood => after_flood(s),
+        KindName::GaussianBlur | KindName::Offset => after_numbers(s, 2),
+        KindName::Merge | KindName::Tile => Some(s),
+        KindName::Morphology => after_morphology(s),
+        KindName::SpecularLighting => after_lighting(s, 3),
+        KindName::Turbulence => after_turbulence(s),
     }
 }
 
@@ -281,11 +232,7 @@ fn after_text(s: &[u8]) -> Option<&[u8]>
         return None;
     }
     let (text, s) = s.split_at_checked(usize::from(n))?;
-    if bits::is_utf8(text, 0, n) {
-        Some(s)
-    } else {
-        None
-    }
+    bits::is_utf8(text, 0, n).then_some(s)
 }
 
 fn after_reference(s: &[u8], form: ListForm) -> Option<&[u8]>
@@ -297,6 +244,8 @@ fn after_reference(s: &[u8], form: ListForm) -> Option<&[u8]>
     }
 }
 
+// By the place of the case, for the reason that stands at the enums whose cases hold numbers. `form` goes down from `in_layout` to `after_reference`, which alone asks it: a
+// struct of it and the bytes would be taken apart and made again at each part that is passed.
 #[tactic(auto, unfolding(list_read::specs::Records::read_input))]
 fn after_input(s: &[u8], form: ListForm) -> Option<&[u8]>
     ensures { option_copied result ≡ after_input form (Some s.now) }
@@ -308,6 +257,7 @@ fn after_input(s: &[u8], form: ListForm) -> Option<&[u8]>
     }
 }
 
+// A for: a try_fold is the same in a closure, and its clause speaks of a run of calls where the loop has one invariant.
 fn after_inputs(s: &[u8], n: u16, form: ListForm) -> Option<&[u8]>
     ensures { option_copied result ≡ after_inputs form (exactly n) (Some s.now) }
 {
@@ -330,13 +280,16 @@ fn after_merge_inputs(s: &[u8], form: ListForm) -> Option<&[u8]>
     after_inputs(s, n, form)
 }
 
-fn after_kind_inputs(s: &[u8], kind: Kind, form: ListForm) -> Option<&[u8]>
-    ensures { option_copied result ≡ after_kind_inputs form (layout_of (place_of kind)) (Some s.now) }
+// A match, as in `after_fields`: a table of how many inputs a kind has would need a mark for a merge, which has a count of its own.
+fn after_kind_inputs(s: &[u8], kind: KindName, form: ListForm) -> Option<&[u8]>
+    ensures { option_copied result ≡ after_kind_inputs form (layout_of (kind_name_place kind)) (Some s.now) }
 {
     match kind {
-        Kind::Flood | Kind::Turbulence => after_inputs(s, 0, form),
-        Kind::Blend | Kind::Composite | Kind::DisplacementMap => after_inputs(s, 2, form),
-        Kind::Merge => after_merge_inputs(s, form),
+        KindName::Flood | KindName::Turbulence => after_inputs(s, 0, form),
+        KindName::Blend | KindName::Composite | KindName::DisplacementMap => after_inputs(
+            s, 2, form,
+        ),
+        KindName::Merge => after_merge_inputs(s, form),
         _ => after_inputs(s, 1, form),
     }
 }
@@ -350,7 +303,7 @@ fn after_record(s: &[u8], form: ListForm) -> Option<&[u8]>
     let s = after_byte_below(s, 2)?;
     let s = after_text(s)?;
     let (place, s) = s.split_first()?;
-    let Ok(kind) = Kind::try_from(*place) else {
+    let Ok(kind) = KindName::try_from(*place) else {
         return None;
     };
     let s = after_kind_inputs(s, kind, form)?;
@@ -365,7 +318,8 @@ fn record_in_layout(s: &[u8], form: ListForm) -> bool
 }
 
 // Whether some bytes are records in the layout, of which the first stands at the offset `first`; the pairs are their offsets and lengths. No offset overflows,
-// since `first` is small.
+// since `first` is small. A `for`, with two places that move on together: a `try_fold` would put them in a pair and take it apart in each step, with an Option to be taken
+// apart behind it. `get32`, though a pair has all its bytes: what is said of a pair is said by `le32`.
 #[tactic(auto, using(crate::proofs::Listing::paired_steps))]
 fn records_in_layout(pairs: &[u8], records: &[u8], first: usize, form: ListForm) -> bool
     requires { first ≤ 4100 }

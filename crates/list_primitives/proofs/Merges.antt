@@ -1,11 +1,14 @@
 -- The inputs of a merge, one node after the other. Assumes nothing.
-use mathlib.Core.Path.{◌≡◌, refl, sym, ap, ◌∙◌}
+use mathlib.Core.Path.{◌≡◌, refl, sym, ◌∙◌}
 use mathlib.Core.List.{List, [], ◌∷◌, ◌++◌, map, append-nil, append_assoc}
 use Prim.Native.Nat.{ℕ, zero, suc, ◌+◌, ◌≤◌, ◌<◌}
-use lib.ListN.{length, length-map}
+use native.Mathlib.Nat.{zero-add}
+use lib.ListN.{length, length-map, length-append}
+use native.Mathlib.Omega.{arith}
+use Rattle.std.specs.List.{fold, sum_by, range_with_len}
 use Rattle.tree.specs.List.{input_run}
 use Rattle.svgtree.specs.Parse.{node_at, nodes_from}
-use Rattle.svgtree.proofs.Following.{nodes_more}
+use Rattle.svgtree.proofs.Following.{nodes_length, nodes_more}
 use Rattle.child.specs.Child.{in_of}
 use Rattle.naming.proofs.Claim.{map_snoc}
 use Rattle.list_primitives.specs.Tables.{input_bytes_at}
@@ -16,14 +19,28 @@ unfolding input_run
 run_snoc f [] i = append-nil (f i)
 run_snoc f (x ∷ xs) i = rw (run_snoc f xs i) (sym (append_assoc (f x) (input_run f xs) (f i)))
 
-nodes_long : (s : List ℕ) (i k : ℕ) → length (nodes_from s i k) ≡ k
-unfolding nodes_from
-nodes_long s i zero = refl
-nodes_long s i (suc k) = ap suc (nodes_long s (i + 1) k)
-
 -- as many inputs as nodes
 pub inputs_long : (s : List ℕ) (i k : ℕ) → length (map in_of (nodes_from s i k)) ≡ k
-inputs_long s i k = length-map (nodes_from s i k) in_of ∙ nodes_long s i k
+inputs_long s i k = length-map (nodes_from s i k) in_of ∙ nodes_length s i k
+
+-- the bytes of node i's input, and how many they are
+module _ (s entries : List ℕ) where
+  abbrev pub input_of_node : ℕ → List ℕ
+  input_of_node i = input_bytes_at s entries (in_of (node_at s i))
+
+  abbrev pub length_of_node : ℕ → ℕ
+  length_of_node i = length (input_of_node i)
+
+  lengths : (sum i n : ℕ) → fold (λ (a k : ℕ). a + length_of_node k) sum (range_with_len i n) ≡ sum + length (input_run (input_bytes_at s entries) (map in_of (nodes_from s i n)))
+  unfolding nodes_from input_run
+  lengths sum i zero = omega arith
+  lengths sum i (suc n) =
+      let rest = input_run (input_bytes_at s entries) (map in_of (nodes_from s (i + 1) n)) in
+      lengths (sum + length_of_node i) (i + 1) n ∙ omega (arith, length-append (input_of_node i) rest)
+
+  -- as long as all inputs of a run
+  pub merge_sum : (i n : ℕ) → sum_by length_of_node (range_with_len i n) ≡ length (input_run (input_bytes_at s entries) (map in_of (nodes_from s i n)))
+  merge_sum i n = lengths 0 i n ∙ zero-add _
 
 module _ (s entries : List ℕ) (first : ℕ) where
   -- the bytes of the first j inputs, and of the next

@@ -9,7 +9,7 @@ use Rattle.bits.specs.declared.writer.Writer.{Writer}
 use Rattle.bits.proofs.Writing.{◌counted◌}
 use Rattle.tree.specs.Input.{text_bytes, input_bytes}
 use Rattle.tree.specs.Scalars.{rect_bytes}
-use Rattle.tree.specs.Places.{color_interpolation_place}
+use Rattle.tree.specs.Places.{color_interpolation_place, kind_place}
 use Rattle.tree.specs.Kinds.{inputs_in}
 use Rattle.tree.specs.List.{inputs_bytes, kind_bytes, primitive_bytes}
 use Rattle.tree.proofs.Lengths.{length_rect}
@@ -18,9 +18,8 @@ use Rattle.child.specs.Means.{kind_is}
 use Rattle.child.specs.declared.Child.{Child}
 use Rattle.results.specs.Means.{name_is}
 use Rattle.results.specs.declared.ResultName.{ResultName}
-use Rattle.list_fields.specs.Means.{place_in, fields_in, inputs_is}
+use Rattle.list_fields.specs.Means.{fields_in, inputs_is}
 use Rattle.list_fields.specs.declared.Inputs.{Inputs}
-use Rattle.list_fields.proofs.Parts.{place_is_lem}
 use Rattle.list_primitives.specs.Tables.{input_at, input_bytes_at, primitive_at}
 
 -- the bytes of the inputs that the code holds
@@ -32,11 +31,11 @@ module _ (s entries : List ℕ) (name : ResultName) (c : Child) where
   inputs = inputs_bytes (input_bytes_at s entries) (inputs_in (kind_is s c.kind))
 
   pub primitive_parts : primitive_bytes (primitive_at s entries name c)
-      ≡ rect_bytes c.rect ++ (color_interpolation_place c.color_interpolation ∷ []) ++ text_bytes (name_is s name) ++ ((place_in c.kind ∷ []) ++ inputs ++ fields_in s c.kind)
+      ≡ rect_bytes c.rect ++ (color_interpolation_place c.color_interpolation ∷ []) ++ text_bytes (name_is s name) ++ ((kind_place (kind_is s c.kind) ∷ []) ++ inputs ++ fields_in s c.kind)
   unfolding primitive_bytes kind_bytes
   primitive_parts =
       ap (λ (l : List ℕ). rect_bytes c.rect ++ (color_interpolation_place c.color_interpolation ∷ []) ++ text_bytes (name_is s name) ++ l)
-      (bytes_map input_bytes (input_at s entries) (kind_is s c.kind) ∙ ap (λ (k : ℕ). (k ∷ []) ++ inputs ++ fields_in s c.kind) (sym (place_is_lem s c.kind)))
+      (bytes_map input_bytes (input_at s entries) (kind_is s c.kind))
 
   pub primitive_long : length (primitive_bytes (primitive_at s entries name c)) ≡ 18 + length (text_bytes (name_is s name)) + length inputs + length (fields_in s c.kind)
   primitive_long = ap length primitive_parts ∙ simp length-append (omega (arith, length_rect c.rect))

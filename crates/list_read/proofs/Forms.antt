@@ -1,12 +1,13 @@
 -- What the laws of records and lists ask of a form, and that both forms have it. Assumes nothing.
 use Prim.Native.Nat.{ℕ, ◌≤◌}
 use native.Mathlib.Omega.{arith}
-use mathlib.Core.Path.{◌≡◌, refl}
+use mathlib.Core.Path.{◌≡◌}
 use mathlib.Core.List.{List, ◌++◌}
-use mathlib.Core.Bool.{Bool, true, false, ◌&&◌}
+use mathlib.Core.Bool.{true}
 use borrow.Author.Tests.{ltb-true, leb-true, lt-ltb, le-leb}
 use lib.Dec.{leb}
 use lib.ListN.{length}
+use Rattle.std.proofs.lemmas.Bool.{and_parts, and_from}
 use Rattle.bits.specs.Bytes.{bytes16}
 use Rattle.bits.specs.Utf8.{utf8}
 use Rattle.list_read.specs.Read.{Got, got, read16, read_text}
@@ -17,18 +18,6 @@ use Rattle.list_read.specs.declared.ListForm.{ListForm}
 use Rattle.list_read.specs.declared.ListForm.TheVariants.{One, Two}
 use Rattle.list_read.proofs.Back.{read16_back, text_back}
 use Rattle.list_read.proofs.Forth.{Holds, AllBytes, Front, read16_forth, text_forth}
-
-pub and_left : (a b : Bool) → a && b ≡ true → a ≡ true
-and_left true b h = refl
-and_left false b h = h
-
-pub and_right : (a b : Bool) → a && b ≡ true → b ≡ true
-and_right true b h = h
-and_right false true h = refl
-and_right false false h = h
-
-pub and_both : {a b : Bool} → a ≡ true → b ≡ true → a && b ≡ true
-and_both {a} {b} h k = rw (h, k)
 
 pub holds_map : {A : Type 0} (P Q : A → List ℕ → Type 0) (g : Got A) → ((a : A) (r : List ℕ) → P a r → Q a r) → Holds P g → Holds Q g
 holds_map P Q Got.outside k h = tt
@@ -42,17 +31,17 @@ pub record Lawful {R : Type 0} (f : Form R) : Type 0 where
 
 pub text_size : (t : List ℕ) → text_fits t ≡ true → length (text_bytes t) ≤ 257
 unfolding text_bytes bytes16
-text_size t h = omega (arith, leb-true (length t) 255 (and_left (leb (length t) 255) (utf8 t) h))
+text_size t h = omega (arith, leb-true (length t) 255 (and_parts (leb (length t) 255) (utf8 t) h).0)
 
 place_size : (n : ℕ) → length (bytes16 n) ≤ 257
 unfolding bytes16
 place_size n = omega arith
 
 pub text_reads : (t r : List ℕ) → text_fits t ≡ true → read_text (text_bytes t ++ r) ≡ got t r
-text_reads t r h = text_back t r (leb-true (length t) 255 (and_left (leb (length t) 255) (utf8 t) h)) (and_right (leb (length t) 255) (utf8 t) h)
+text_reads t r h = text_back t r (leb-true (length t) 255 (and_parts (leb (length t) 255) (utf8 t) h).0) (and_parts (leb (length t) 255) (utf8 t) h).1
 
 pub text_read : (xs : List ℕ) → AllBytes xs → Holds (λ t r. (text_fits t ≡ true) × Front xs (text_bytes t) r) (read_text xs)
-text_read xs h = holds_map _ _ (read_text xs) (λ t r p. (and_both (le-leb (length t) 255 p.0) p.1, p.2)) (text_forth xs h)
+text_read xs h = holds_map _ _ (read_text xs) (λ t r p. (and_from _ _ (le-leb (length t) 255 p.0) p.1, p.2)) (text_forth xs h)
 
 pub lawful1 : Lawful form1
 lawful1 = record { back = text_reads; forth = text_read; size = text_size; short = omega arith }

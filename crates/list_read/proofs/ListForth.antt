@@ -6,6 +6,7 @@ use mathlib.Core.List.{List, [], ◌∷◌, ◌++◌}
 use borrow.Author.Tests.{eqb-true, leb-true}
 use lib.Dec.{leb, eqb}
 use lib.ListN.{length, length-append}
+use Rattle.std.proofs.lemmas.List.{nil_from_length}
 use Rattle.bits.specs.Bytes.{bytes16, bytes32}
 use Rattle.list_read.specs.Read.{read_byte, read16, read32, read_many}
 use Rattle.list_read.specs.Records.{Form, ListRecord, read_record}
@@ -32,10 +33,6 @@ length_32 n = refl
 length_front : (xs ys r : List ℕ) → Front xs ys r → length xs ≡ length ys + length r
 length_front xs ys r p = ap length p.split ∙ length-append ys r
 
-no_bytes : (xs : List ℕ) → length xs ≡ 0 → xs ≡ []
-no_bytes [] h = refl
-no_bytes (x ∷ xs) h = absurd (omega arith)
-
 module _ {R : Type 0} (f : Form R) (law : Lawful f) where
   -- what is read of n pairs and of the bytes behind them
   pub record ReadRecords (n at : ℕ) (ps xs : List ℕ) (rs : List (ListRecord R)) (r : List ℕ) : Type 0 where
@@ -47,7 +44,7 @@ module _ {R : Type 0} (f : Form R) (law : Lawful f) where
 
   records_none : (at : ℕ) (ps xs : List ℕ) → length ps ≡ 0 → Holds (ReadRecords 0 at ps xs) (read_records f 0 at ps xs)
   unfolding read_records write_pairs write_records AllInLayout
-  records_none at ps [] h = record { rest = refl; count = refl; each = tt; pairs_are = no_bytes ps h; records_are = refl }
+  records_none at ps [] h = record { rest = refl; count = refl; each = tt; pairs_are = nil_from_length ps h; records_are = refl }
   records_none at ps (x ∷ xs) h = tt
 
   module _ (n at : ℕ) (ps xs : List ℕ) (offset : ℕ) (ps₁ : List ℕ) (size : ℕ) (ps₂ ys rest : List ℕ) (r : ListRecord R) (rs : List (ListRecord R)) (s : List ℕ)

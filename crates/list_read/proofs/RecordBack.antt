@@ -14,7 +14,8 @@ use Rattle.tree.specs.List.{input_run}
 use Rattle.list_read.specs.Records.{Form, ListRecord, read_input, read_inputs, read_kind, read_record}
 use Rattle.list_read.specs.Write.{write_input, write_inputs, write_kind_inputs, write_record, arity_fits, input_fits, inputs_fit, InLayout}
 use Rattle.list_read.proofs.Back.{read16_back, below_back, run_back_at}
-use Rattle.list_read.proofs.Forms.{Lawful, and_left, and_right, text_reads}
+use Rattle.std.proofs.lemmas.Bool.{and_parts}
+use Rattle.list_read.proofs.Forms.{Lawful, text_reads}
 
 module _ {R : Type 0} (f : Form R) (law : Lawful f) where
   input_back : (i : InputOf R) (r : List ℕ) → input_fits f i ≡ true → read_input f (write_input f i ++ r) ≡ got i r
@@ -27,7 +28,7 @@ module _ {R : Type 0} (f : Form R) (law : Lawful f) where
   unfolding read_many input_run inputs_fit
   run_inputs [] r h = refl
   run_inputs (i ∷ is) r h =
-      rw (append_assoc (write_input f i) (input_run (write_input f) is) r, input_back i (input_run (write_input f) is ++ r) (and_left (input_fits f i) (inputs_fit f is) h), run_inputs is r (and_right (input_fits f i) (inputs_fit f is) h))
+      rw (append_assoc (write_input f i) (input_run (write_input f) is) r, input_back i (input_run (write_input f) is ++ r) (and_parts (input_fits f i) (inputs_fit f is) h).0, run_inputs is r (and_parts (input_fits f i) (inputs_fit f is) h).1)
 
   inputs_back : (a : Arity) (is : List (InputOf R)) (r : List ℕ) → arity_fits a (length is) ≡ true → inputs_fit f is ≡ true → read_inputs f a (write_inputs f a is ++ r) ≡ got is r
   unfolding read_inputs write_inputs

@@ -16,7 +16,8 @@ use Rattle.tree.specs.List.{input_run}
 use Rattle.list_read.specs.Records.{Form, ListRecord, text_fits, read_input, input_case, read_inputs, read_kind, read_record}
 use Rattle.list_read.specs.Write.{write_input, write_inputs, write_record, arity_fits, input_fits, inputs_fit, InLayout}
 use Rattle.list_read.proofs.Forth.{Holds, holds_then, holds_only_if, AllBytes, Front, fronts, byte_forth, below_forth, read16_forth, run_forth}
-use Rattle.list_read.proofs.Forms.{Lawful, and_both, text_read, holds_map}
+use Rattle.std.proofs.lemmas.Bool.{and_from}
+use Rattle.list_read.proofs.Forms.{Lawful, text_read, holds_map}
 
 module _ {R : Type 0} (f : Form R) (law : Lawful f) where
   case_forth : (k : ℕ) (r : List ℕ) → k < 3 → AllBytes r → Holds (λ i r'. (input_fits f i ≡ true) × Front (k ∷ r) (write_input f i) r') (input_case f k r)
@@ -39,7 +40,7 @@ module _ {R : Type 0} (f : Form R) (law : Lawful f) where
   run_inputs (suc n) xs h =
       holds_then _ _ (read_input f xs) _ (input_forth xs h)
       (λ i r p. holds_then _ _ (read_many (read_input f) n r) _ (run_inputs n r p.1.rest)
-      (λ is r' q. (ap suc q.0, and_both p.0 q.1, fronts p.1 q.2)))
+      (λ is r' q. (ap suc q.0, and_from _ _ p.0 q.1, fronts p.1 q.2)))
 
   inputs_forth : (a : Arity) (xs : List ℕ) → AllBytes xs → Holds (λ is r. (arity_fits a (length is) ≡ true) × (inputs_fit f is ≡ true) × Front xs (write_inputs f a is) r) (read_inputs f a xs)
   unfolding read_inputs write_inputs

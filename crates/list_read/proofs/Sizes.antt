@@ -2,11 +2,12 @@
 use Rattle.std.specs.Prelude.{None, Option, Some}
 use Prim.Native.Nat.{ℕ, zero, suc, ◌+◌, ◌*◌, ◌<◌, ◌≤◌}
 use native.Mathlib.Omega.{arith}
-use mathlib.Core.Path.{◌≡◌, refl, subst}
+use mathlib.Core.Path.{◌≡◌, subst}
 use mathlib.Core.List.{List, [], ◌∷◌, ◌++◌}
-use mathlib.Core.Bool.{false, Bool, true, ◌&&◌}
+use mathlib.Core.Bool.{true, ◌&&◌}
 use borrow.Author.Tests.{ltb-true, leb-true, eqb-true}
 use lib.Dec.{T, leb, ltb}
+use lib.Ieee.Bits.{is_true}
 use lib.ListN.{length, length-append, get_or}
 use Rattle.bits.specs.Bytes.{bytes16}
 use Rattle.list_read.specs.Read.{Got, outside, got, read_byte, read_below, read16, read32, read_many}
@@ -16,7 +17,8 @@ use Rattle.tree.specs.List.{input_run}
 use Rattle.list_read.specs.Records.{Form, ListRecord}
 use Rattle.list_read.specs.Write.{write_input, write_inputs, write_record, arity_fits, input_fits, inputs_fit, InLayout, write_records, AllInLayout}
 use Rattle.list_read.proofs.Forth.{Holds, holds_then, holds_only_if}
-use Rattle.list_read.proofs.Forms.{Lawful, and_left, and_right, text_size, holds_map}
+use Rattle.std.proofs.lemmas.Bool.{and_parts}
+use Rattle.list_read.proofs.Forms.{Lawful, text_size, holds_map}
 
 -- at most so many bytes were passed
 abbrev Passed : ℕ → List ℕ → {A : Type 0} → A → List ℕ → Type 0
@@ -74,7 +76,7 @@ item_size (f32s n) xs = floats_size n xs
 item_size (vec low high) xs =
     holds_then _ _ (read16 xs) _ (half_size xs)
     (λ n r p. holds_only_if _ (leb low n && leb n high) _
-    (λ e. holds_map _ _ (read_many read32 n r) (λ ns r' q. omega (arith, leb-true n high (and_right (leb low n) (leb n high) e))) (floats_size n r)))
+    (λ e. holds_map _ _ (read_many read32 n r) (λ ns r' q. omega (arith, leb-true n high (and_parts (leb low n) (leb n high) e).1)) (floats_size n r)))
 item_size option xs =
     holds_then _ _ (read_below 2 xs) _ (below_size 2 xs)
     (λ n r p. holds_map _ _ (read_many read32 n r) (λ ns r' q. omega (arith, p.0, p.1)) (floats_size n r))
@@ -124,9 +126,9 @@ fields_size (f ∷ fs) xs =
     (λ ns r p. holds_then _ _ (walk_fields fs r) _ (fields_size fs r) (λ ms r' q. omega arith))
 
 end_size : (most : ℕ) (xs : List ℕ) (g : Got (List ℕ)) → Holds (Passed most xs) g → at_end g ≡ true → length xs ≤ most
-end_size most xs outside h e = absurd (let z : ◌≡◌ {A = ℕ} 0 1 = cc in omega arith)
+end_size most xs outside h e = cc
 end_size most xs (got ns []) h e = omega arith
-end_size most xs (got ns (x ∷ r)) h e = absurd (let z : ◌≡◌ {A = ℕ} 0 1 = cc in omega arith)
+end_size most xs (got ns (x ∷ r)) h e = cc
 
 -- the table: each kind's fields, and a fixed number of inputs
 
@@ -153,17 +155,13 @@ table_small : AllSmall layouts
 unfolding AllSmall fields_most cases_most items_most
 table_small = (tt, (tt, (tt, (tt, (tt, (tt, (tt, (tt, (tt, (tt, (tt, (tt, (tt, (tt, (tt, (tt, (tt, tt)))))))))))))))))
 
-T_true : (b : Bool) → T b → b ≡ true
-T_true true h = refl
-T_true false h = elim h [ ]
-
 layout_small : (k : ℕ) (l : Layout) → layout_of k ≡ Some l → (fields_most l.fields ≤ 32868) × (arity_most l.inputs ≤ 511)
 unfolding layout_of
 layout_small k l e =
     let b = leb (fields_most l.fields) 32868 in
     let c = leb (arity_most l.inputs) 511 in
-    let h = T_true (b && c) (subst Small e (small_at layouts table_small k)) in
-    (leb-true _ _ (and_left b c h), leb-true _ _ (and_right b c h))
+    let h = is_true (b && c) (subst Small e (small_at layouts table_small k)) in
+    (leb-true _ _ (and_parts b c h).0, leb-true _ _ (and_parts b c h).1)
 
 module _ {R : Type 0} (f : Form R) (law : Lawful f) where
   pub input_size : (i : InputOf R) → input_fits f i ≡ true → length (write_input f i) ≤ 258
@@ -175,7 +173,7 @@ module _ {R : Type 0} (f : Form R) (law : Lawful f) where
   unfolding input_run inputs_fit
   inputs_size [] h = omega arith
   inputs_size (i ∷ is) h =
-      omega (arith, length-append (write_input f i) (input_run (write_input f) is), input_size i (and_left (input_fits f i) (inputs_fit f is) h), inputs_size is (and_right (input_fits f i) (inputs_fit f is) h))
+      omega (arith, length-append (write_input f i) (input_run (write_input f) is), input_size i (and_parts (input_fits f i) (inputs_fit f is) h).0, inputs_size is (and_parts (input_fits f i) (inputs_fit f is) h).1)
 
   arity_size : (a : Arity) (is : List (InputOf R)) → arity_most a ≤ 511 → arity_fits a (length is) ≡ true → inputs_fit f is ≡ true → length (write_inputs f a is) ≤ 131840
   unfolding write_inputs bytes16

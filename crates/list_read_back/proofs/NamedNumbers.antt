@@ -3,14 +3,17 @@
 use Prim.Native.Nat.{ℕ, ◌+◌, ◌*◌, ◌<◌, ◌≤◌}
 use native.Mathlib.Omega.{arith}
 use native.Mathlib.Nat.{le-mul_of_pos_right, mul_comm}
-use mathlib.Core.Path.{◌≡◌, refl, sym, ap, ◌∙◌, subst}
-use mathlib.Core.Bool.{Bool, true, false, ◌&&◌}
+use mathlib.Core.Path.{◌≡◌, refl, ap, ◌∙◌}
+use mathlib.Core.Bool.{true, ◌&&◌}
 use mathlib.Core.List.{List, [], ◌∷◌, ◌++◌, map, append_assoc}
 use borrow.Author.Tests.{eq-eqb, lt-ltb}
 use lib.Dec.{T}
 use lib.ListN.{length, length-append}
 use lib.Seq.{get_or-append-add}
 use lib.Ieee.{Float, binary32, of_bits}
+use lib.Ieee.Bits.{is_true}
+use Rattle.std.proofs.lemmas.Bool.{and_from}
+use Rattle.std.proofs.lemmas.Float.{T_from_true}
 use Rattle.num.specs.Constants.{plus_zero}
 use Rattle.bits.specs.Bytes.{bytes32, bytes_f}
 use Rattle.num.specs.Sign.{positive, opacity_in}
@@ -31,22 +34,14 @@ use Rattle.list_read.specs.Read.{read32, read_many}
 use Rattle.list_read.specs.Layout.{layout_of}
 use Rattle.list_read.specs.Patterns.{walk_kind, patterns_in}
 use Rattle.list_read.proofs.Back.{read32_back}
-use Rattle.list_read.proofs.Forms.{and_both}
 use Rattle.list_read_back.specs.Reading.{list_record_of}
 use Rattle.list_read_back.specs.Within.{KindWithin, AllWithin, Fits}
 use Rattle.list_read_back.specs.Ranges.{number_at, light_ok, kernel_ok, named_ok, RecordRange, RecordRanges}
 use Rattle.list_read_back.proofs.Walks.{kind_walk}
 use Rattle.list_read_back.proofs.Claims.{patterns_back}
 
-is_true : (b : Bool) → T b → b ≡ true
-is_true true t = refl
-is_true false t = absurd t
-
-yes : {b : Bool} → b ≡ true → T b
-yes {b} e = subst T (sym e) tt
-
 positives : (x y : Float) → T (positive x) → T (positive y) → positive x && positive y ≡ true
-positives x y h k = and_both {a = positive x} {b = positive y} (is_true (positive x) h) (is_true (positive y) k)
+positives x y h k = and_from (positive x) (positive y) (is_true (positive x) h) (is_true (positive y) k)
 
 spot : (l : LightSource) → T (light_in_range l) → light_ok (light_numbers l) ≡ true
 spot (light.DistantLight l) h = refl
@@ -88,14 +83,14 @@ named (Composite a b v) w h = refl
 named (ConvolveMatrix a v) w h = kernel v w h
 named (DiffuseLighting a v) w h = spot v.light_source h.spot
 named (DisplacementMap a b v) w h = refl
-named (DropShadow a v) w h = and_both (positives v.std_dev_x v.std_dev_y h.deviation_x h.deviation_y) (is_true (opacity_in v.opacity) h.opacity)
+named (DropShadow a v) w h = and_from _ _ (positives v.std_dev_x v.std_dev_y h.deviation_x h.deviation_y) (is_true (opacity_in v.opacity) h.opacity)
 named (Flood v) w h = is_true (opacity_in v.opacity) h.opacity
 named (GaussianBlur a v) w h = positives v.std_dev_x v.std_dev_y h.deviation_x h.deviation_y
 named (Image never) w h = refl
 named (Merge inputs) w h = refl
 named (Morphology a v) w h = positives v.radius_x v.radius_y h.radius_x h.radius_y
 named (Offset a v) w h = refl
-named (SpecularLighting a v) w h = and_both (is_true (exponent_in_range v.specular_exponent) h.exponent) (spot v.light_source h.spot)
+named (SpecularLighting a v) w h = and_from _ _ (is_true (exponent_in_range v.specular_exponent) h.exponent) (spot v.light_source h.spot)
 named (Tile a) w h = refl
 named (Turbulence v) w h = refl
 
@@ -106,7 +101,7 @@ field_numbers_lem k w h = rw (kind_walk k w) (patterns_back (ranges.numbers_of_k
 record_range : (p : Primitive) → KindWithin p.kind → Each Fits (ranges.primitive_numbers p) → ranges.InRange p.kind → RecordRange (list_record_of p)
 record_range p w h r =
     let k = p.kind in
-    yes (ap (λ (ns : List Float). named_ok (kind_place k) ns (patterns_in (read_many read32 4 (field_bytes k)))) (field_numbers_lem k w (each_behind Fits (ranges.rect_numbers p.rect) (ranges.numbers_of_kind k) h)) ∙ named k w r)
+    T_from_true _ (ap (λ (ns : List Float). named_ok (kind_place k) ns (patterns_in (read_many read32 4 (field_bytes k)))) (field_numbers_lem k w (each_behind Fits (ranges.rect_numbers p.rect) (ranges.numbers_of_kind k) h)) ∙ named k w r)
 
 pub record_ranges : (ps : List Primitive) → AllWithin ps → Each Fits (ranges.list_numbers ps) → ranges.AllInRange ps → RecordRanges (map list_record_of ps)
 unfolding RecordRanges AllWithin ranges.list_numbers ranges.AllInRange

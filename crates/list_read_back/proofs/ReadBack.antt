@@ -62,7 +62,7 @@ color_small LinearRGB = omega arith
 
 module _ (p : Primitive) (w : Within p) where
   inside_by : (o : Option Layout) → layout_of (kind_place p.kind) ≡ o → walk_kind o (field_bytes p.kind) ≡ got (map pattern_of (ranges.numbers_of_kind p.kind)) [] → arity_is o (length (inputs_of p.kind)) ≡ true → InLayout form1 (list_record_of p)
-  inside_by None e h a = absurd (let z : ◌≡◌ {A = ℕ} 0 1 = cc in omega arith)
+  inside_by None e h a = cc
   inside_by (Some l) e h a =
       record {
         layout = l;

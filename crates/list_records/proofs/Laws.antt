@@ -7,6 +7,7 @@ use native.Mathlib.Numerals.{add-one}
 use native.Mathlib.Omega.{arith}
 use lib.ListN.{length, get_or, take, set, length-append, length-set}
 use lib.Seq.{take-suc, take-suc-set, take-take, get_or-take, length-take-le}
+use Rattle.std.proofs.lemmas.List.{take-map}
 use Rattle.tree.specs.Input.{Name}
 use Rattle.tree.specs.Kinds.{Primitive, map_kind}
 use Rattle.tree.specs.List.{primitive_bytes, primitive_size, records_bytes}
@@ -25,11 +26,6 @@ use Rattle.list_primitives.specs.Primitives.{primitive_of, primitives_from, prim
 use Rattle.list_primitives.specs.NamesOnly.{owns_of}
 use Rattle.list_primitives.specs.Tables.{primitive_at}
 use Rattle.list_records.specs.Tables.{child_at, children_is, record_at, records_up_to, sizes_up_to, Measures}
-
-take-map : {A B : Type 0} (g : A → B) (k : ℕ) (l : List A) → take k (map g l) ≡ map g (take k l)
-take-map g zero l = refl
-take-map g (suc k) [] = refl
-take-map {B} g (suc k) (x ∷ xs) = ap {B = List B} (λ l. g x ∷ l) (take-map g k xs)
 
 own_at : (g : ℕ → value.Child) (l : List ℕ) (j : ℕ) → j < length l → get_or (owns_of (map g l)) j None ≡ (g (get_or l j 0)).own
 own_at g [] j h = absurd (omega arith)

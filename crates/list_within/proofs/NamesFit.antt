@@ -1,9 +1,10 @@
 -- Names fit: a made name is ASCII and short, and what an input resolves to is a text of the sheet or an earlier name. Assumes nothing.
+use Rattle.std.proofs.lemmas.Bool.{and_from}
 use Rattle.std.specs.Prelude.{None, Option, Some}
 use Prim.Native.Nat.{ℕ, zero, suc, ◌+◌, ◌*◌, ◌/◌, ◌%◌, ◌≤◌, ◌<◌}
 use native.Mathlib.Omega.{arith}
 use mathlib.Core.Path.{◌≡◌, refl, sym, ap, ◌∙◌, subst}
-use mathlib.Core.Bool.{Bool, true, false, cond, ◌&&◌}
+use mathlib.Core.Bool.{Bool, true, false, cond}
 use mathlib.Core.List.{List, [], ◌∷◌, ◌++◌, map}
 use lib.Dec.{leb, ltb}
 use lib.ListN.{length, length-append}
@@ -12,9 +13,11 @@ use Rattle.bits.specs.Bytes.{same}
 use Rattle.bits.specs.Utf8.{ByteRange, utf8_table, utf8_starting, utf8_step, utf8_run, utf8_whole, utf8}
 use Rattle.bits.proofs.WellFormed.{row_hit}
 use Rattle.tree.specs.Input as tree
-use Rattle.naming.specs.Names.{member, digits, digits_up_to, w_result, made_name, first_free, Label, Own, Made, name_of, own_names, Results, start, names_so_far, next_free, label, counter_after, after}
+use Rattle.naming.specs.Names.{member, digits, digits_up_to, w_result, made_name, first_free, Label, name_of, own_names, Results, start, names_so_far, next_free, label, counter_after, after}
 use Rattle.naming.specs.Inputs.{w_source_graphic, w_source_alpha, unsupported_inputs, parse_in, last_of, previous, settled, resolve}
 use Rattle.naming.proofs.Naming.{free_at_most}
+use Rattle.naming.proofs.Made.{own_few}
+use Rattle.num.proofs.Each.{choose}
 use Rattle.tree.specs.Input.{Name}
 use Rattle.list_read.specs.Records.{form1, text_fits}
 use Rattle.list_read.specs.Write.{input_fits, inputs_fit}
@@ -73,16 +76,12 @@ digits_few (suc f) n (suc k) h = go (ltb n 10) (digits_few f (n / 10) k)
 result_small : Small w_result
 result_small = (omega arith, (omega arith, (omega arith, (omega arith, (omega arith, (omega arith, tt))))))
 
-both_true : (a b : Bool) → a ≡ true → b ≡ true → a && b ≡ true
-both_true true b h k = k
-both_true false b h k = h
-
 made_fits : (k : ℕ) → k < 10000000 → text_fits (made_name k) ≡ true
 unfolding made_name digits tens
 made_fits k h =
     let few : length (digits_up_to k k) ≤ 7 = digits_few k k 6 h in
     let l : length (w_result ++ digits_up_to k k) ≤ 255 = subst (λ (m : ℕ). m ≤ 255) (sym (length-append w_result (digits_up_to k k))) (omega arith) in
-    both_true (leb (length (w_result ++ digits_up_to k k)) 255) (utf8 (w_result ++ digits_up_to k k))
+    and_from (leb (length (w_result ++ digits_up_to k k)) 255) (utf8 (w_result ++ digits_up_to k k))
     (le-leb (length (w_result ++ digits_up_to k k)) 255 l)
     (small_utf8 (w_result ++ digits_up_to k k) (small_append w_result (digits_up_to k k) result_small (digits_small k k (omega arith))))
 
@@ -100,12 +99,6 @@ pub record StateFit (i : ℕ) (st : Results) : Type 0 where
 
 pub start_fit : StateFit 0 start
 start_fit = record { names = tt; count = refl; low = omega arith }
-
-own_few : (ls : List Label) → length (own_names ls) ≤ length ls
-unfolding own_names
-own_few [] = omega arith
-own_few (Own t ∷ ls) = let r = own_few ls in omega (arith, r)
-own_few (Made k ∷ ls) = let r = own_few ls in omega (arith, r)
 
 names_snoc : (ls : List Label) (l : Label) → NamesFit (map name_of ls) → text_fits (name_of l) ≡ true → NamesFit (map name_of (ls ++ (l ∷ [])))
 names_snoc [] l h k = (k, tt)
@@ -139,10 +132,6 @@ module _ (i : ℕ) (st : Results) (f : StateFit i st) (few : i < 512) where
 abbrev InputFit : tree.Input → Type 0
 InputFit x = input_fits form1 x ≡ true
 
-choose : (b : Bool) (x y : tree.Input) → InputFit x → InputFit y → InputFit (cond b x y)
-choose true x y h k = h
-choose false x y h k = k
-
 last_fit : (n : Name) (ns : List Name) → text_fits n ≡ true → NamesFit ns → text_fits (last_of n ns) ≡ true
 last_fit n [] h k = h
 last_fit n (m ∷ ms) h k = last_fit m ms k.0 k.1
@@ -154,14 +143,14 @@ previous_fit (n ∷ ns) h = last_fit n ns h.0 h.1
 settled_fit : (ns : List Name) (x : tree.Input) → NamesFit ns → InputFit x → InputFit (settled ns x)
 settled_fit ns tree.SourceGraphic h k = refl
 settled_fit ns tree.SourceAlpha h k = refl
-settled_fit ns (tree.Reference t) h k = choose (member t ns) (tree.Reference t) (previous ns) k (previous_fit ns h)
+settled_fit ns (tree.Reference t) h k = choose InputFit (member t ns) (tree.Reference t) (previous ns) k (previous_fit ns h)
 
 parse_fit : (t : Name) → text_fits t ≡ true → InputFit (parse_in t)
 unfolding parse_in
 parse_fit t h =
-    choose (same t w_source_graphic) tree.SourceGraphic _ refl
-    (choose (same t w_source_alpha) tree.SourceAlpha _ refl
-    (choose (member t unsupported_inputs) tree.SourceGraphic (tree.Reference t) refl h))
+    choose InputFit (same t w_source_graphic) tree.SourceGraphic _ refl
+    (choose InputFit (same t w_source_alpha) tree.SourceAlpha _ refl
+    (choose InputFit (member t unsupported_inputs) tree.SourceGraphic (tree.Reference t) refl h))
 
 resolve_fit : (ns : List Name) → NamesFit ns → (o : Option Name) → OptionFit o → InputFit (resolve ns o)
 unfolding resolve
@@ -172,4 +161,4 @@ pub inputs_fit_lem : (ns : List Name) → NamesFit ns → (os : List (Option Nam
 unfolding inputs_fit
 inputs_fit_lem ns h [] k = refl
 inputs_fit_lem ns h (o ∷ os) k =
-    both_true (input_fits form1 (resolve ns o)) (inputs_fit form1 (map (resolve ns) os)) (resolve_fit ns h o k.0) (inputs_fit_lem ns h os k.1)
+    and_from (input_fits form1 (resolve ns o)) (inputs_fit form1 (map (resolve ns) os)) (resolve_fit ns h o k.0) (inputs_fit_lem ns h os k.1)

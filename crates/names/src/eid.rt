@@ -1,5 +1,6 @@
 // Element names in use, as the tag byte of a node: 1 + the place in the source's `EId`, counted from 0. Tag 0 is a node without a name.
-// Constants, and no enum: a sheet may have any tag, and its readers take any, so an enum would be a narrower type of theirs.
+// Constants, and no enum: `tag_name` promises the byte as it stands, also in a sheet that was not checked, which may have any byte there. An `Option<EId>` would
+// say less: the bytes that name nothing would all be one value, and with them the bytes that a checked sheet can't have.
 
 pub const FE_BLEND: u8 = 6;
 

@@ -90,7 +90,7 @@ pub fn kind_at(depth: u8, id: u16) -> Option<ValueKind>
     kind_on_grandchild(id)
 }
 
-// Whether a value of a kind may stand under an id at a depth.
+// Whether a value of a kind may stand under an id at a depth. The kind is the byte as it stands: a sheet may have any, and one that stands for no kind is allowed nowhere.
 #[tactic(auto, unfolding(crate::specs::Kinds::kind_allowed))]
 pub fn kind_allowed(depth: u8, id: u16, kind: u8) -> bool
     ensures { result ≡ kind_allowed depth id kind }

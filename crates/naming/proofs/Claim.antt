@@ -3,11 +3,13 @@
 use Rattle.std.specs.Prelude.{None, Option, Some, option_map, unwrap_or}
 use mathlib.Core.Path.{◌≡◌, refl, sym, ap, ◌∙◌}
 use mathlib.Core.Bool.{Bool, true, false, cond, ◌||◌}
-use mathlib.Core.List.{List, [], ◌∷◌, ◌++◌, map, append-nil}
+use mathlib.Core.List.{List, [], ◌∷◌, ◌++◌, map, append-nil, map-append}
 use Prim.Native.Nat.{ℕ, zero, suc, ◌<◌}
 use native.Mathlib.Omega.{arith}
 use lib.ListN.{length, get_or, take, length-map}
 use lib.Seq.{append_snoc}
+use Rattle.std.proofs.lemmas.Bool.{both_ways, or_parts}
+use Rattle.std.proofs.lemmas.List.{get_or-map}
 use Rattle.bits.specs.Bytes.{same}
 use Rattle.bits.proofs.Sameness.{same_refl, same_eq}
 use Rattle.tree.specs.Input.{Name, SourceGraphic, SourceAlpha, Reference}
@@ -15,7 +17,6 @@ use Rattle.naming.specs.Names.{member, made_name, Label, Own, Made, name_of, own
 use Rattle.naming.specs.Inputs.{w_source_graphic, w_source_alpha, unsupported_inputs, parse_in, last_of, previous, settled, resolve}
 use Rattle.naming.specs.Agreement.{ChildNames, InputImage, graphic, alpha, nth, later, last_with, lookup, reserved, is_own, is_made, directly, rule, owns, result_names, inputs_at, written_at, Agrees, or_else, called}
 use Rattle.naming.specs.Written.{record_names_from, all_record_names}
-use Rattle.naming.proofs.Words.{both_ways, or_left, or_right}
 use Rattle.naming.proofs.Naming.{free_is_free}
 
 -- `last_with`
@@ -40,7 +41,7 @@ last_found n (m ∷ ms) = rw (last_found m ms)
 absent : (t : Name) (ns : List Name) → member t ns ≡ false → last_with (same t) ns ≡ None
 unfolding last_with member
 absent t [] e = refl
-absent t (n ∷ ns) e = rw (absent t ns (or_right (same t n) (member t ns) e), or_left (same t n) (member t ns) e)
+absent t (n ∷ ns) e = let p = or_parts (same t n) (member t ns) e in rw (absent t ns p.1, p.0)
 
 found_cons : (b : Bool) (o : Option ℕ) (m : Bool) → (m ≡ true → (k : ℕ) × (o ≡ Some k)) → b || m ≡ true → (k : ℕ) × (later o b ≡ Some k)
 found_cons true None m t e = (0, refl)
@@ -49,13 +50,13 @@ found_cons false o m t e = let q = t e in (suc q.0, rw q.1)
 
 present : (t : Name) (ns : List Name) → member t ns ≡ true → (k : ℕ) × (last_with (same t) ns ≡ Some k)
 unfolding last_with member
-present t [] e = both_ways false e refl
+present t [] e = absurd (both_ways false refl e)
 present t (n ∷ ns) e = found_cons (same t n) (last_with (same t) ns) (member t ns) (present t ns) e
 
 own_absent : (t : Name) (ls : List Label) → member t (own_names ls) ≡ false → last_with (is_own t) ls ≡ None
 unfolding last_with member own_names
 own_absent t [] e = refl
-own_absent t (Own u ∷ ls) e = rw (own_absent t ls (or_right (same t u) (member t (own_names ls)) e), or_left (same t u) (member t (own_names ls)) e)
+own_absent t (Own u ∷ ls) e = let p = or_parts (same t u) (member t (own_names ls)) e in rw (own_absent t ls p.1, p.0)
 own_absent t (Made k ∷ ls) e = rw (own_absent t ls e)
 
 -- The reserved words: `parse_in` and the rule read the same ones
@@ -95,8 +96,7 @@ unfolding last_with
 newest_start t = refl
 
 pub map_snoc : {A B : Type 0} (f : A → B) (xs : List A) (y : A) → map f (xs ++ (y ∷ [])) ≡ map f xs ++ (f y ∷ [])
-map_snoc f [] y = refl
-map_snoc {B} f (x ∷ xs) y = ap {B = List B} (λ l. f x ∷ l) (map_snoc f xs y)
+map_snoc f xs y = map-append f xs (y ∷ [])
 
 -- the names after one more label
 names_snoc : (t : Name) (ls : List Label) (l : Label)
@@ -163,17 +163,12 @@ one_input ls g (Some t) = go (read t)
 
 -- The list
 
-get_d_map : {A B : Type 0} (f : A → B) (l : List A) (j : ℕ) (a : A) (b : B) → j < length l → get_or (map f l) j b ≡ f (get_or l j a)
-get_d_map f [] j a b h = absurd (omega arith)
-get_d_map f (x ∷ xs) zero a b h = refl
-get_d_map f (x ∷ xs) (suc j) a b h = get_d_map f xs j a b (omega arith)
-
 agree_from : (cs : List ChildNames) (st : Results) → Newest st.labels → (i : ℕ) → i < length cs → (j : ℕ) → j < length (inputs_at cs i)
     → lookup (names_so_far st ++ result_names (take i (record_names_from st cs))) (get_or (written_at (record_names_from st cs) i) j SourceGraphic)
     ≡ Some (rule (after_all st (owns (take i cs))).labels (get_or (inputs_at cs i) j None))
 unfolding record_names_from after_all
 agree_from [] st g i h j k = absurd (omega arith)
-agree_from (c ∷ cs) st g zero h j k = rw (append-nil (names_so_far st), get_d_map (resolve (names_so_far st)) c.inputs j None SourceGraphic k) (one_input st.labels g (get_or c.inputs j None))
+agree_from (c ∷ cs) st g zero h j k = rw (append-nil (names_so_far st), get_or-map (resolve (names_so_far st)) c.inputs j None SourceGraphic k) (one_input st.labels g (get_or c.inputs j None))
 agree_from (c ∷ cs) st g (suc i) h j k =
     rw (
       ← append_snoc (names_so_far st) (name_of (label st c.own)) (result_names (take i (record_names_from (after st c.own) cs))),

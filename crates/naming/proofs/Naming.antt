@@ -12,7 +12,8 @@ use Rattle.bits.specs.Bytes.{same}
 use Rattle.tree.specs.Input.{Name}
 use Rattle.naming.specs.Names.{member, digits, digits_up_to, made_name, first_free, first_free_up_to}
 use Rattle.bits.proofs.Sameness.{same_eq}
-use Rattle.naming.proofs.Words.{both_ways, same_ne}
+use Rattle.std.proofs.lemmas.Bool.{both_ways}
+use Rattle.naming.proofs.Words.{same_ne}
 
 -- what digits say: read from the left
 value_from : ℕ → List ℕ → ℕ
@@ -78,7 +79,7 @@ without_shorter x (y ∷ ys) = go (same x y) (without_shorter x ys)
 
 without_less : (x : Name) (l : List Name) → member x l ≡ true → length (without x l) < length l
 unfolding without member keep_if
-without_less x [] h = let z : ◌≡◌ {A = ℕ} 0 1 = cc in absurd (omega arith)
+without_less x [] h = cc
 without_less x (y ∷ ys) h = go (same x y) h (without_less x ys)
   where
     go : (b : Bool) → b || member x ys ≡ true → (member x ys ≡ true → length (without x ys) < length ys)
@@ -171,12 +172,12 @@ pub free_go : (ns : List Name) (from k : ℕ) → k ≤ first_free ns from → m
 free_go ns from k h m = go (eqb k (first_free ns from)) refl
   where
     go : (b : Bool) → eqb k (first_free ns from) ≡ b → k < first_free ns from
-    go true e = let q : k ≡ first_free ns from = eqb-true k (first_free ns from) e in both_ways _ (rw q at m) (free_is_free ns from)
+    go true e = let q : k ≡ first_free ns from = eqb-true k (first_free ns from) e in absurd (both_ways _ (free_is_free ns from) (rw q at m))
     go false e = omega (arith, eqb-false k (first_free ns from) e)
 
 pub free_stop : (ns : List Name) (from k : ℕ) → from ≤ k → k ≤ first_free ns from → member (made_name k) ns ≡ false → first_free ns from ≡ k
 free_stop ns from k lo hi m = go (ltb k (first_free ns from)) refl
   where
     go : (b : Bool) → ltb k (first_free ns from) ≡ b → first_free ns from ≡ k
-    go true e = both_ways _ (free_skips ns from k lo (ltb-true k (first_free ns from) e)) m
+    go true e = absurd (both_ways _ m (free_skips ns from k lo (ltb-true k (first_free ns from) e)))
     go false e = omega (arith, ltb-false k (first_free ns from) e)

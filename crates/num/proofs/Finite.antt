@@ -1,8 +1,8 @@
 -- Which bits are a finite number's, and what `single` and `double_narrowed` read. Assumes nothing.
-use Rattle.std.specs.Prelude.{None, Some}
-use mathlib.Core.Path.{◌≡◌, sym, ap, ◌∙◌, subst}
+use Rattle.std.specs.Prelude.{None, Some, unwrap_or}
+use mathlib.Core.Path.{◌≡◌, refl, sym, ap, ◌∙◌, subst}
 use Prim.Native.Nat.{ℕ, ◌*◌, ◌%◌, ◌<◌, ◌≤◌}
-use mathlib.Core.Bool.{Bool, true, false, not, cond}
+use mathlib.Core.Bool.{Bool, true, false, not}
 use lib.Dec.{T}
 use borrow.Author.Tests.{lt-ltb, le-ltb}
 use lib.Ieee.{Float, nan, inf, fin, binary32, binary64, up, down, fits, nan_bits, of_bits, to_bits}
@@ -47,18 +47,20 @@ module _ (n : ℕ) where
   unfolding if_finite
   number_no h = ap (λ (t : Bool). pick_number t (Some (of_bits binary32 n)) None) (sym (no h))
 
-  pub single_yes : n % 2147483648 < 2139095040 → of_bits binary32 n ≡ single_of n
-  unfolding single_of or_zero
-  single_yes h = ap (λ (t : Bool). cond t (of_bits binary32 n) plus_zero) (sym (yes h))
+-- a number that is not finite is read as 0
+finite_or_zero : (x : Float) → unwrap_or (if_finite x) plus_zero ≡ or_zero x
+unfolding if_finite or_zero
+finite_or_zero nan = refl
+finite_or_zero (inf s) = refl
+finite_or_zero (fin s m e) = refl
 
-  pub single_no : 2139095040 ≤ n % 2147483648 → plus_zero ≡ single_of n
-  unfolding single_of or_zero
-  single_no h = ap (λ (t : Bool). cond t (of_bits binary32 n) plus_zero) (sym (no h))
+pub single_or_zero : (n : ℕ) → unwrap_or (if_finite (of_bits binary32 n)) plus_zero ≡ single_of n
+unfolding single_of
+single_or_zero n = finite_or_zero (of_bits binary32 n)
 
--- an f64's, by way of the bits n of the narrowed number
-pub single_double : (n b : ℕ) → n ≡ to_bits binary32 (narrowed (of_bits binary64 b)) → single_of n ≡ double_of b
-unfolding single_of double_of
-single_double n b e = ap or_zero (narrowed_back (of_bits binary64 b) n e)
+pub double_or_zero : (n : ℕ) → unwrap_or (if_finite (narrowed (of_bits binary64 n))) plus_zero ≡ double_of n
+unfolding double_of
+double_or_zero n = finite_or_zero (narrowed (of_bits binary64 n))
 
 -- ---- what is read is finite, whatever the bits
 pub zero_finite : T (finite plus_zero)

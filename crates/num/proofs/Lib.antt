@@ -7,3 +7,4 @@ pub mod Roundings
 pub mod Wholes
 pub mod Library
 pub mod Each
+pub mod Defaults

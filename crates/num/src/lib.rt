@@ -2,7 +2,7 @@
 // Every public function takes any bits: infinities and NaN too.
 #![tactic(auto)]
 
-ghost use Rattle.std.specs.Prelude.{◌≡◌, Bool, cond, ◌+◌, ◌*◌, ◌/◌, ◌%◌, ◌^◌, ◌≤◌, ◌<◌};
+ghost use Rattle.std.specs.Prelude.{◌≡◌, Bool, cond, None, Some, ◌+◌, ◌*◌, ◌/◌, ◌%◌, ◌^◌, ◌≤◌, ◌<◌};
 ghost use Rattle.std.specs.Float.{binary32, binary64};
 ghost use Rattle.std.specs.Float.Ieee.{of_fields, of_bits, to_bits, to_signed};
 ghost use Rattle.std.specs.Float.Ieee.Nearest.{closest};
@@ -17,46 +17,6 @@ use std::num::{
     saturating_f64_to_i32,
 };
 
-// ---- the fields of a pattern
-
-// The exponent's field of an f64.
-fn exponent64(bits: u64) -> u64
-    ensures { result ≡ bits / 2 ^ 52 % 2048 }
-{
-    (bits >> 52) & 0x7ff
-}
-
-// The fraction's field of an f64.
-fn fraction64(bits: u64) -> u64
-    ensures { result ≡ bits % 2 ^ 52 }
-{
-    bits & 0xf_ffff_ffff_ffff
-}
-
-// An f64's fraction with the leading one.
-fn with_lead(t: u64) -> u64
-    requires { t < 4503599627370496 }
-    ensures { result ≡ 4503599627370496 + t }
-{
-    t | 0x10_0000_0000_0000
-}
-
-// 2 ^ d.
-fn unit64(d: u64) -> u64
-    requires { d < 64 }
-    ensures { result ≡ 2 ^ d }
-{
-    1u64 << d
-}
-
-// The lowest d digits of n.
-fn low_bits(n: u64, d: u64) -> u64
-    requires { d < 64 }
-    ensures { result ≡ n % 2 ^ d }
-{
-    n & (unit64(d) - 1)
-}
-
 // ---- rounding
 
 // n / 2 ^ d to the nearest, a tie to the even one.
@@ -65,8 +25,8 @@ fn nearest_shift(n: u64, d: u64) -> u64
     ensures { result ≡ closest n (2 ^ d) }
 {
     let q = n >> d;
-    let u = unit64(d);
-    let rest = low_bits(n, d) * 2;
+    let u = 1 << d;
+    let rest = n % u * 2;
     if rest < u {
         q
     } else if u < rest {
@@ -78,6 +38,9 @@ fn nearest_shift(n: u64, d: u64) -> u64
 
 // ---- f64 to f32, by hand: std's `nearest_f64_to_f32_with_nan` takes twice the time, and each number of a sheet is narrowed
 
+// What an f64's fraction has before it, and does not write.
+const LEADING_ONE: u64 = 0x10_0000_0000_0000;
+
 // The f32's bits without the sign, of an f64 that is no NaN and has the exponent's field x and the fraction t.
 fn magnitude(x: u64, t: u64) -> u64
     requires { (x * 4503599627370496 + t ≤ 9218868437227405312) × (t < 4503599627370496) }
@@ -87,7 +50,7 @@ fn magnitude(x: u64, t: u64) -> u64
     if x < 873 {
         return 0;
     }
-    let g = with_lead(t);
+    let g = LEADING_ONE + t;
     if x < 897 {
         return nearest_shift(g, 926 - x);
     }
@@ -104,13 +67,14 @@ pub fn narrow(bits: u64) -> u32
     if 0x7ff0_0000_0000_0000 < bits % 0x8000_0000_0000_0000 {
         return 0x7fc0_0000;
     }
-    let m = magnitude(exponent64(bits), fraction64(bits));
+    let m = magnitude((bits >> 52) % 0x800, bits % LEADING_ONE);
     (((bits >> 63) << 31) + m) as u32
 }
 
 // ---- bits read as numbers: one test says that they are no infinity's and no NaN's, where after `f32_from_bits_with_nan` it takes a second
 
 // An f32's bits as a number, where they are a finite one's.
+#[inline]
 pub fn take_single(bits: u32) -> Option<f32>
     ensures { result ≡ if_finite (of_bits binary32 bits) }
 {
@@ -121,30 +85,33 @@ pub fn take_single(bits: u32) -> Option<f32>
 }
 
 // An f64's bits as an f32, where both are finite.
+#[inline]
 pub fn take_number(bits: u64) -> Option<f32>
     ensures { result ≡ if_finite (narrowed (of_bits binary64 bits)) }
 {
     take_single(narrow(bits))
 }
 
-// An f32's bits as a number, 0 where they are no finite one's.
+// The same two for what reads a sheet that is accepted, where each number is finite: 0 for any other, since they can't fail, and no caller has a use for None.
+
+#[inline]
+#[tactic(auto, using(crate::proofs::Finite::single_or_zero))]
 pub fn single(bits: u32) -> f32
     ensures { result ≡ single_of bits }
 {
-    if bits % 0x8000_0000 < 0x7f80_0000 {
-        return f32::from_bits(bits);
-    }
-    0.0
+    take_single(bits).unwrap_or(0.0)
 }
 
-// An f64's bits narrowed to an f32, 0 where that is not finite.
+#[inline]
+#[tactic(auto, using(crate::proofs::Finite::double_or_zero))]
 pub fn double_narrowed(bits: u64) -> f32
     ensures { result ≡ double_of bits }
 {
-    single(narrow(bits))
+    take_number(bits).unwrap_or(0.0)
 }
 
-// ---- whole numbers
+// ---- whole numbers. Of these and of the tests below, `f32_to_i32`, `round_f32` and `is_finite` only call the library, by the definitions that the contracts above this crate name:
+// where its clause says the same in other words, the lemma is used once here and at no call.
 
 // Rust's `x as i32`: cut toward zero, held at both ends, 0 for NaN.
 pub fn f32_to_i32(x: f32) -> i32
@@ -191,6 +158,14 @@ pub fn is_positive(x: f32) -> bool
     ensures { result ≡ positive x }
 {
     is_finite(x) && 0.0 <= x
+}
+
+// strict-num's `PositiveF32::new`: x where it is positive.
+#[inline]
+pub fn positive(x: f32) -> Option<f32>
+    ensures { result ≡ cond (positive x) (Some x) None }
+{
+    is_positive(x).then_some(x)
 }
 
 // Rust's `is_sign_negative`: -0, every negative number and the negative infinity. NaN has no sign here: false.

@@ -13,7 +13,7 @@ use Rattle.decimal.specs.Grammar.{TypedItem, item_of}
 use Rattle.number_list.specs.declared.Before.{Before}
 use Rattle.number_list.specs.declared.Before.TheVariants as before
 use Rattle.number_list.specs.Text.{comma_part, is_space, in_word, begins, parts, and_more, items_from, items_of}
-use Rattle.number_list.proofs.Splits.{first_word, after_first_word, parts_word}
+use Rattle.number_list.proofs.Splits.{first_word, after_first_word, parts_word, parts_space}
 use Rattle.number_list.proofs.Steps.{item_more}
 use Rattle.number_grammar.specs.Production.{Number}
 use Rattle.number_grammar.specs.Listing.{Gap, no_gap, gap, Parting, spaced, comma, Items, one_item, more_items, Listed, empty, listed}
@@ -146,10 +146,6 @@ end_rest before.Start is e = let f : [] ≡ is = cc in subst (Listed []) f (empt
 end_rest before.Item is e = let f : [] ≡ is = cc in subst (Follow []) f (ends no_gap)
 end_rest before.Comma is e = cc
 
-space_parts : (c : ℕ) (t : List ℕ) → is_space c ≡ true → parts (c ∷ t) ≡ parts t
-unfolding parts
-space_parts c t e = rw e
-
 comma_parts : (c : ℕ) (t : List ℕ) → is_space c ≡ false → eqb c 44 ≡ true → parts (c ∷ t) ≡ comma_part ∷ parts t
 unfolding parts
 comma_parts c t e f = rw (e, f)
@@ -179,7 +175,7 @@ module _ (n : ℕ) (ih : (b : Before) (t : List ℕ) (is : List TypedItem) → l
   byte_rest b c t is h e = go (is_space c) refl (eqb c 44) refl
     where
       go : (p : Bool) → is_space c ≡ p → (q : Bool) → eqb c 44 ≡ q → Rest b (c ∷ t) is
-      go true p q f = space_rest b c t is (subst T (sym p) tt) (ih b t is h (sym (ap (items_from b) (space_parts c t p)) ∙ e))
+      go true p q f = space_rest b c t is (subst T (sym p) tt) (ih b t is h (sym (ap (items_from b) (parts_space c t p)) ∙ e))
       go false p true f =
           subst (λ (x : ℕ). Rest b (x ∷ t) is) (sym (eqb-true c 44 f)) (comma_rest b t is h (sym (ap (items_from b) (comma_parts c t p f)) ∙ e))
       go false p false f = word_rest b c t is (in_word_lem c p f) h e

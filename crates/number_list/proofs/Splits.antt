@@ -1,20 +1,17 @@
 -- The parts of a text: white space is skipped, a comma is a part, and a word goes up to the next white space or comma. Assumes nothing.
-use Prim.Native.Nat.{ℕ, zero, suc, ◌+◌, ◌-◌, ◌≤◌, ◌<◌}
-use native.Mathlib.Nat.{add-zero, not-le_of_lt}
+use Prim.Native.Nat.{ℕ, ◌+◌, ◌<◌}
+use native.Mathlib.Numerals.{one-add}
 use native.Mathlib.Omega.{arith}
 use mathlib.Core.Path.{◌≡◌, refl, sym, ap, ◌∙◌, subst}
 use mathlib.Core.Bool.{Bool, true, false, not, cond}
-use mathlib.Core.List.{List, [], ◌∷◌, ◌++◌, append_assoc, append-nil}
-use lib.ListN.{get_or}
+use mathlib.Core.List.{List, [], ◌∷◌}
+use lib.ListN.{take, drop}
 use lib.Dec.{T, eqb}
 use lib.Ieee.Fits.{and_l, and_r}
 use lib.Ieee.Bits.{is_false}
-use Rattle.std.specs.Prelude.{Option, Some, None}
-use Rattle.std.specs.Option.{MatchOption, unwrap_or}
-use Rattle.bits.specs.Bytes.{bytes_from}
-use Rattle.bits.proofs.Runs.{bytes_from_step, bytes_from_none, bytes_from_more}
+use Rattle.std.specs.Prelude.{Some, None}
+use Rattle.std.specs.List.{slice_get, prefix_len}
 use Rattle.number_list.specs.Text.{Part, comma_part, word_part, is_space, in_word, begins, joined, parts}
-use Rattle.number_list.specs.Means.{Spaces, Word}
 
 -- ---- bytes of a word
 word_space : (b : ℕ) → in_word b ≡ true → is_space b ≡ false
@@ -58,164 +55,76 @@ unfolding begins
 parts_word [] e = cc
 parts_word (b ∷ t) e = one_word b t e (λ f. parts_word t f)
 
--- ---- at a place
-module _ (s : List ℕ) (at n : ℕ) (h : 0 < n) where
-  parts_space : is_space (get_or s at 0) ≡ true → parts (bytes_from s at n) ≡ parts (bytes_from s (at + 1) (n - 1))
-  unfolding parts
-  parts_space t = rw (bytes_from_step s at n h, t)
-
-  pub parts_comma : is_space (get_or s at 0) ≡ false → eqb (get_or s at 0) 44 ≡ true → parts (bytes_from s at n) ≡ comma_part ∷ parts (bytes_from s (at + 1) (n - 1))
-  unfolding parts
-  parts_comma t e = rw (bytes_from_step s at n h, t, e)
-
-  part_more : in_word (get_or s at 0) ≡ true → first_word (bytes_from s at n) ≡ get_or s at 0 ∷ first_word (bytes_from s (at + 1) (n - 1))
-  unfolding first_word
-  part_more t = rw (bytes_from_step s at n h, t)
-
-  part_stop : in_word (get_or s at 0) ≡ false → first_word (bytes_from s at n) ≡ []
-  unfolding first_word
-  part_stop t = rw (bytes_from_step s at n h, t)
-
-  rest_more : in_word (get_or s at 0) ≡ true → after_first_word (bytes_from s at n) ≡ after_first_word (bytes_from s (at + 1) (n - 1))
-  unfolding after_first_word
-  rest_more t = rw (bytes_from_step s at n h, t)
-
-  rest_stop : in_word (get_or s at 0) ≡ false → after_first_word (bytes_from s at n) ≡ bytes_from s at n
-  unfolding after_first_word
-  rest_stop t = rw (bytes_from_step s at n h, t)
-
-  begins_first : begins (bytes_from s at n) ≡ in_word (get_or s at 0)
-  unfolding begins
-  begins_first = rw (bytes_from_step s at n h)
-
-pub parts_end : (s : List ℕ) (at n : ℕ) → n ≡ 0 → parts (bytes_from s at n) ≡ []
-unfolding parts
-parts_end s at n z = rw (bytes_from_none s at n z)
-
-part_end : (s : List ℕ) (at n : ℕ) → n ≡ 0 → first_word (bytes_from s at n) ≡ []
+-- the same by how many of its bytes stand in a word
+first_word_len : (t : List ℕ) → first_word t ≡ take (prefix_len in_word t) t
 unfolding first_word
-part_end s at n z = rw (bytes_from_none s at n z)
+first_word_len [] = refl
+first_word_len (b ∷ t) = go (in_word b) (first_word_len t)
+  where
+    go : (q : Bool) → first_word t ≡ take (prefix_len in_word t) t → cond q (b ∷ first_word t) [] ≡ take (cond q (1 + prefix_len in_word t) 0) (b ∷ t)
+    go true ih = rw one-add (ap (λ (l : List ℕ). b ∷ l) ih)
+    go false ih = refl
 
-rest_end : (s : List ℕ) (at n : ℕ) → n ≡ 0 → after_first_word (bytes_from s at n) ≡ bytes_from s at n
+after_first_word_len : (t : List ℕ) → after_first_word t ≡ drop (prefix_len in_word t) t
 unfolding after_first_word
-rest_end s at n z = rw (bytes_from_none s at n z)
+after_first_word_len [] = refl
+after_first_word_len (b ∷ t) = go (in_word b) (after_first_word_len t)
+  where
+    go : (q : Bool) → after_first_word t ≡ drop (prefix_len in_word t) t → cond q (after_first_word t) (b ∷ t) ≡ drop (cond q (1 + prefix_len in_word t) 0) (b ∷ t)
+    go true ih = rw one-add ih
+    go false ih = refl
 
--- one byte on
-next_place_lem : (s : List ℕ) (at left n : ℕ) → bytes_from s (at + n + 1) (left - n - 1) ≡ bytes_from s (at + (n + 1)) (left - (n + 1))
-next_place_lem s at left n =
-    let e : at + n + 1 ≡ at + (n + 1) = omega arith in
-    let f : left - n - 1 ≡ left - (n + 1) = omega arith in
-    rw (e, f)
+-- ---- by the first byte
+pub parts_end : (t : List ℕ) → slice_get t 0 ≡ None → parts t ≡ []
+unfolding parts
+parts_end [] e = refl
+parts_end (b ∷ t) e = cc
 
--- ---- white space, on the way
-pub record Skipping (s : List ℕ) (at left n : ℕ) : Type 0 where
-  pub within : n ≤ left
-  pub skipped : parts (bytes_from s at left) ≡ parts (bytes_from s (at + n) (left - n))
+pub parts_comma : (t : List ℕ) → slice_get t 0 ≡ Some 44 → parts t ≡ comma_part ∷ parts (drop 1 t)
+unfolding parts is_space
+parts_comma [] e = cc
+parts_comma (b ∷ t) e = let f : b ≡ 44 = cc in rw f
 
-pub skip_start : (s : List ℕ) (at left : ℕ) → Skipping s at left 0
-skip_start s at left =
-    let e : left ≡ left - 0 = omega arith in
-    record { within = omega arith; skipped = ap (λ (a : ℕ). parts (bytes_from s a left)) (sym (add-zero at)) ∙ ap (λ (n : ℕ). parts (bytes_from s (at + 0) n)) e }
+begins_first : (t : List ℕ) (b : ℕ) → slice_get t 0 ≡ Some b → begins t ≡ in_word b
+unfolding begins
+begins_first [] b e = cc
+begins_first (x ∷ t) b e = let f : x ≡ b = cc in ap in_word f
 
-module _ (s : List ℕ) (at left n : ℕ) (k : Skipping s at left n) where
-  pub skip_more : n < left → is_space (get_or s (at + n) 0) ≡ true → Skipping s at left (n + 1)
-  skip_more h t =
-      record {
-        within = omega arith;
-        skipped = k.skipped ∙ parts_space s (at + n) (left - n) (omega arith) t ∙ ap parts (next_place_lem s at left n);
-      }
+some_first : (t : List ℕ) (b : ℕ) → slice_get t 0 ≡ Some b → in_word b ≡ true → 0 < prefix_len in_word t
+some_first [] b e h = cc
+some_first (x ∷ t) b e h =
+    let f : x ≡ b = cc in
+    let g : in_word x ≡ true = ap in_word f ∙ h in
+    rw g (omega arith)
 
-  pub skip_stop : n < left → is_space (get_or s (at + n) 0) ≡ false → Spaces s at left n
-  skip_stop h t = record { within = k.within; skipped = k.skipped; stop = λ _. t }
+module _ (t : List ℕ) (b : ℕ) (e : slice_get t 0 ≡ Some b) (h : in_word b ≡ true) where
+  begun : begins t ≡ true
+  begun = begins_first t b e ∙ h
 
-  pub skip_end : left ≤ n → Spaces s at left n
-  skip_end h = record { within = k.within; skipped = k.skipped; stop = λ g. absurd (not-le_of_lt g h) }
+  pub parts_begin : parts t ≡ word_part (take (prefix_len in_word t) t) ∷ parts (drop (prefix_len in_word t) t)
+  parts_begin = rw (← first_word_len t, ← after_first_word_len t) (parts_word t begun)
 
-skip_over : (s : List ℕ) (at left n : ℕ) → n ≤ left → ((k : ℕ) → 0 ≤ k → k < n → is_space (get_or s (at + k) 0) ≡ true) → Skipping s at left n
-skip_over s at left zero h f = skip_start s at left
-skip_over s at left (suc n) h f =
-    let e : suc n ≡ n + 1 = omega arith in
-    rw e (skip_more s at left n (skip_over s at left n (omega arith) (λ k z l. f k z (omega arith))) (omega arith) (f n (omega arith) (omega arith)))
+  pub word_some : 0 < prefix_len in_word t
+  word_some = some_first t b e h
 
--- what a search for the first byte that is no white space finds
-pub spaces_found : (s : List ℕ) (at left : ℕ) (r : Option ℕ)
-    → MatchOption r
-    ((k : ℕ) → 0 ≤ k → k < left → is_space (get_or s (at + k) 0) ≡ true)
-    (λ i. (0 ≤ i) × (i < left) × (is_space (get_or s (at + i) 0) ≡ false) × ((k : ℕ) → 0 ≤ k → k < i → is_space (get_or s (at + k) 0) ≡ true))
-    → Spaces s at left (unwrap_or r left)
-spaces_found s at left None f =
-    let h : left ≤ left = omega arith in
-    skip_end s at left left (skip_over s at left left h f) h
-spaces_found s at left (Some n) f = skip_stop s at left n (skip_over s at left n (omega arith) f.3) f.1 f.2
+-- ---- white space
+pub parts_space : (b : ℕ) (t : List ℕ) → is_space b ≡ true → parts (b ∷ t) ≡ parts t
+unfolding parts
+parts_space b t e = rw e
 
--- ---- a word, on the way
-pub record Spelling (s : List ℕ) (at left n : ℕ) : Type 0 where
-  pub some : 0 < n
-  pub within : n ≤ left
-  pub begun : begins (bytes_from s at left) ≡ true
-  pub part : first_word (bytes_from s at left) ≡ bytes_from s at n ++ first_word (bytes_from s (at + n) (left - n))
-  pub rest : after_first_word (bytes_from s at left) ≡ after_first_word (bytes_from s (at + n) (left - n))
+pub parts_spaces : (t : List ℕ) → parts t ≡ parts (drop (prefix_len is_space t) t)
+parts_spaces [] = refl
+parts_spaces (b ∷ t) = go (is_space b) refl (parts_spaces t)
+  where
+    go : (q : Bool) → is_space b ≡ q → parts t ≡ parts (drop (prefix_len is_space t) t) → parts (b ∷ t) ≡ parts (drop (cond q (1 + prefix_len is_space t) 0) (b ∷ t))
+    go true e ih = rw one-add (parts_space b t e ∙ ih)
+    go false e ih = refl
 
-pub spell_start : (s : List ℕ) (at left : ℕ) → 0 < left → in_word (get_or s at 0) ≡ true → Spelling s at left 1
-unfolding bytes_from
-spell_start s at left h t =
-    record {
-      some = omega arith;
-      within = omega arith;
-      begun = begins_first s at left h ∙ t;
-      part = part_more s at left h t;
-      rest = rest_more s at left h t;
-    }
-
-module _ (s : List ℕ) (at left n : ℕ) (k : Spelling s at left n) where
-  pub spell_more : n < left → in_word (get_or s (at + n) 0) ≡ true → Spelling s at left (n + 1)
-  spell_more h t =
-      record {
-        some = omega arith;
-        within = omega arith;
-        begun = k.begun;
-        part =
-            k.part
-            ∙ ap (λ (l : List ℕ). bytes_from s at n ++ l) (part_more s (at + n) (left - n) (omega arith) t)
-            ∙ sym (append_assoc (bytes_from s at n) (get_or s (at + n) 0 ∷ []) (first_word (bytes_from s (at + n + 1) (left - n - 1))))
-            ∙ ap (λ (l : List ℕ). l ++ first_word (bytes_from s (at + n + 1) (left - n - 1))) (sym (bytes_from_more s at n))
-            ∙ ap (λ (l : List ℕ). bytes_from s at (n + 1) ++ first_word l) (next_place_lem s at left n);
-        rest = k.rest ∙ rest_more s (at + n) (left - n) (omega arith) t ∙ ap after_first_word (next_place_lem s at left n);
-      }
-
-  done : first_word (bytes_from s (at + n) (left - n)) ≡ [] → after_first_word (bytes_from s (at + n) (left - n)) ≡ bytes_from s (at + n) (left - n) → Word s at left n
-  done p q =
-      record {
-        some = k.some;
-        within = k.within;
-        first =
-            parts_word (bytes_from s at left) k.begun
-            ∙ ap (λ (w : List ℕ). word_part w ∷ parts (after_first_word (bytes_from s at left))) (k.part ∙ ap (λ (l : List ℕ). bytes_from s at n ++ l) p ∙ append-nil (bytes_from s at n))
-            ∙ ap (λ (l : List ℕ). word_part (bytes_from s at n) ∷ parts l) (k.rest ∙ q);
-      }
-
-  pub spell_stop : n < left → in_word (get_or s (at + n) 0) ≡ false → Word s at left n
-  spell_stop h t = done (part_stop s (at + n) (left - n) (omega arith) t) (rest_stop s (at + n) (left - n) (omega arith) t)
-
-  pub spell_end : left ≤ n → Word s at left n
-  spell_end h =
-      let z : left - n ≡ 0 = omega arith in
-      done (part_end s (at + n) (left - n) z) (rest_end s (at + n) (left - n) z)
-
-spell_over : (s : List ℕ) (at left n : ℕ) → 0 < n → n ≤ left → in_word (get_or s at 0) ≡ true → ((k : ℕ) → 1 ≤ k → k < n → in_word (get_or s (at + k) 0) ≡ true) → Spelling s at left n
-spell_over s at left zero o h w f = absurd (omega arith)
-spell_over s at left (suc zero) o h w f = spell_start s at left (omega arith) w
-spell_over s at left (suc (suc n)) o h w f =
-    let e : suc (suc n) ≡ suc n + 1 = omega arith in
-    rw e (spell_more s at left (suc n) (spell_over s at left (suc n) (omega arith) (omega arith) w (λ k z l. f k z (omega arith))) (omega arith) (f (suc n) (omega arith) (omega arith)))
-
--- what a search for the first byte behind the word finds
-pub word_found : (s : List ℕ) (at left : ℕ) (r : Option ℕ) → 0 < left → in_word (get_or s at 0) ≡ true
-    → MatchOption r
-    ((k : ℕ) → 1 ≤ k → k < left → in_word (get_or s (at + k) 0) ≡ true)
-    (λ i. (1 ≤ i) × (i < left) × (in_word (get_or s (at + i) 0) ≡ false) × ((k : ℕ) → 1 ≤ k → k < i → in_word (get_or s (at + k) 0) ≡ true))
-    → Word s at left (unwrap_or r left)
-word_found s at left None h w f =
-    let l : left ≤ left = omega arith in
-    spell_end s at left left (spell_over s at left left h l w f) l
-word_found s at left (Some n) h w f = spell_stop s at left n (spell_over s at left n (omega arith) (omega arith) w f.3) f.1 f.2
+pub space_stops : (t : List ℕ) (b : ℕ) → slice_get (drop (prefix_len is_space t) t) 0 ≡ Some b → is_space b ≡ false
+space_stops [] b = λ e. cc
+space_stops (x ∷ t) b = go (is_space x) refl (space_stops t b)
+  where
+    go : (q : Bool) → is_space x ≡ q → (slice_get (drop (prefix_len is_space t) t) 0 ≡ Some b → is_space b ≡ false)
+        → slice_get (drop (cond q (1 + prefix_len is_space t) 0) (x ∷ t)) 0 ≡ Some b → is_space b ≡ false
+    go true f ih e = ih (rw one-add at e)
+    go false f ih e = let g : x ≡ b = cc in ap is_space (sym g) ∙ f

@@ -4,10 +4,10 @@ use Rattle.std.specs.Prelude.{None, Option, Some}
 use Prim.Native.Nat.{ℕ, suc, ◌≤◌}
 use native.Mathlib.Omega.{arith}
 use mathlib.Core.Path.{◌≡◌, refl}
-use mathlib.Core.Bool.{Bool, true, false, cond}
 use mathlib.Core.List.{List, [], ◌∷◌}
 use lib.Dec.{eqb}
 use lib.ListN.{length}
+use Rattle.num.proofs.Each.{choose}
 use Rattle.answer.specs.declared.Refusal.{Refusal}
 use Rattle.names.specs.Ids.{aid_result}
 use Rattle.geom.specs.declared.Rect.{Rect}
@@ -46,14 +46,10 @@ module _ (P : ElementKind → Type 0) (other : P no_primitive) where
   All [] = Unit {0}
   All ((t gives m) ∷ rest) = P m × All rest
 
-  either : (b : Bool) (x y : ElementKind) → P x → P y → P (cond b x y)
-  either true x y h k = h
-  either false x y h k = k
-
   pub by_tag_lem : (xs : List Tagged) (tag : ℕ) → All xs → P (by_tag xs tag)
   unfolding by_tag
   by_tag_lem [] tag h = other
-  by_tag_lem ((t gives m) ∷ rest) tag h = either (eqb tag t) m (by_tag rest tag) h.0 (by_tag_lem rest tag h.1)
+  by_tag_lem ((t gives m) ∷ rest) tag h = choose P (eqb tag t) m (by_tag rest tag) h.0 (by_tag_lem rest tag h.1)
 
 -- ---- the children: P of each, R of a refusal
 
@@ -97,14 +93,10 @@ module _ (P : Child → Type 0) where
       region_step_lem n rest h (Some r) e = kind_step_lem n r (kind_of f n (child_nodes rest)) (child n rest h r e) (kind n rest h)
       region_step_lem n rest h None e = tt
 
-      passed_over : (b : Bool) (x : Step) → StepAll x → StepAll (cond b pass x)
-      passed_over true x h = tt
-      passed_over false x h = h
-
       step_all : (n : Node) (rest : List Node) → N (n ∷ rest) → StepAll (step_of f n rest)
       unfolding step_of
       step_all n rest h =
-          passed_over (eqb n.depth 1) _ (passed_over (eqb n.tag 0) _ (region_step_lem n rest h (region_of f n) refl))
+          choose StepAll (eqb n.depth 1) pass _ tt (choose StepAll (eqb n.tag 0) pass _ tt (region_step_lem n rest h (region_of f n) refl))
 
       pub chain_all : (ns : List Node) → N ns → ChainAll (chain.chain f ns)
       unfolding chain.chain

@@ -5,8 +5,6 @@ use Rattle.tree.specs.declared.DiffuseLighting.{DiffuseLighting}
 use Rattle.tree.specs.declared.DisplacementMap.{DisplacementMap}
 use Rattle.tree.specs.declared.Morphology.{Morphology}
 use Rattle.std.specs.Prelude.{Err, None, Ok, Option, Result, Some}
-use Prim.Native.Nat.{ℕ}
-use native.Mathlib.Omega.{arith}
 use mathlib.Core.Path.{◌≡◌, refl, subst}
 use mathlib.Core.Bool.{Bool, true, false, not, cond, ◌&&◌}
 use mathlib.Core.List.{List}
@@ -93,7 +91,7 @@ abbrev MadeGoes : ElementKind → Type 0
 MadeGoes m = MadeAll AnyKind NotSeven m
 
 six_goes : {why : Refusal} → why ≡ Unrepresentable → NotSeven why
-six_goes e q = let z : ◌≡◌ {A = ℕ} 0 1 = cc in omega arith
+six_goes e q = cc
 
 turbulence_made_lem : (n : Node) (m : Option Pair) → Given m → MadeGoes (turbulence_made (turbulence_with n m))
 turbulence_made_lem n (Some p) h = tt

@@ -3,9 +3,8 @@
 // A list is stored as its name's length in one byte, its own length in four, the lowest first; then the name, then the list.
 #![tactic(auto)]
 
-ghost use Rattle.std.specs.Prelude.{◌≤◌};
-
 use bits::get32;
+use input::cases::{Ending, Passes, run_cases};
 use input::{ReadError, read_head, read_part};
 use list_layout::in_layout;
 use list_read::ListForm;
@@ -47,32 +46,33 @@ impl Stored<'_> {
     }
 }
 
-fn report(rt: &impl Print, lists: u32, inside: u32, is_whole: bool) -> io::Result<()>
-    requires { inside ≤ lists }
-{
+fn report(rt: &impl Print, lists: Passes, ending: Ending) -> io::Result<()> {
+    let Passes {
+        cases: lists,
+        passed: inside,
+    } = lists;
     println!(rt;
         "{lists} lists, {inside} in the layout, {} not",
         lists - inside
     )?;
-    if !is_whole {
+    if let Ending::CutShort = ending {
         println!(rt; "the input is cut short")?;
     }
     Ok(())
 }
 
-// The loop has a last turn, since nothing says that an input ends.
 fn run(rt: &impl Print, input: &mut impl Read, buffers: &mut Buffers) -> io::Result<()> {
-    let mut inside = 0;
-    for lists in 0..100_000 {
-        let stored = match buffers.next_list(input) {
-            Ok(Some(stored)) => stored,
-            Ok(None) => return report(rt, lists, inside, true),
-            Err(ReadError::Broken) => return report(rt, lists, inside, false),
-            Err(ReadError::Io(e)) => return Err(e),
+    let none = Passes {
+        cases: 0,
+        passed: 0,
+    };
+    let (lists, ending) = run_cases(none, 100_000, || {
+        let Some(stored) = buffers.next_list(input)? else {
+            return Ok(None);
         };
-        inside += u32::from(stored.check(rt)?);
-    }
-    report(rt, 100_000, inside, false)
+        Ok(Some(stored.check(rt)?))
+    })?;
+    report(rt, lists, ending)
 }
 
 fn main(rt: HostRuntime) -> io::Result<()> {

@@ -3,6 +3,7 @@
 #![tactic(auto)]
 
 use bits::get32;
+use input::cases::{Ending, Passes, run_cases};
 use input::{ReadError, UNWRITTEN, is_unwritten, read_head, read_part};
 use std::io;
 use std::io::Read;
@@ -66,7 +67,8 @@ impl Case<'_> {
     }
 }
 
-// What a call left of an output that was filled before it: all of it, or all that is behind the list.
+// What a call left of an output that was filled before it: all of it, or all that is behind the list. By the number, as a case has it, and no `Result`: it is the
+// calls that C gets that are tried here, and their length too where they refuse.
 fn output_left(out: &[u8], number: u32, length: usize) -> &'static str {
     if !out.get(length..).is_some_and(is_unwritten) {
         "OUTPUT CHANGED"
@@ -77,27 +79,27 @@ fn output_left(out: &[u8], number: u32, length: usize) -> &'static str {
     }
 }
 
-fn report(rt: &impl Print, cases: u32, differences: u32, is_whole: bool) -> io::Result<()> {
-    println!(rt; "{cases} cases, {differences} not as expected")?;
-    if !is_whole {
+fn report(rt: &impl Print, cases: Passes, ending: Ending) -> io::Result<()> {
+    let Passes { cases, passed } = cases;
+    println!(rt; "{cases} cases, {} not as expected", cases - passed)?;
+    if let Ending::CutShort = ending {
         println!(rt; "the input is cut short")?;
     }
     Ok(())
 }
 
-// The loop has a last turn, since nothing says that an input ends.
 fn run(rt: &impl Print, input: &mut impl Read, buffers: &mut Buffers) -> io::Result<()> {
-    let mut differences = 0;
-    for cases in 0..1000 {
-        let case = match buffers.next_case(input) {
-            Ok(Some(case)) => case,
-            Ok(None) => return report(rt, cases, differences, true),
-            Err(ReadError::Broken) => return report(rt, cases, differences, false),
-            Err(ReadError::Io(e)) => return Err(e),
+    let none = Passes {
+        cases: 0,
+        passed: 0,
+    };
+    let (cases, ending) = run_cases(none, 1000, || {
+        let Some(case) = buffers.next_case(input)? else {
+            return Ok(None);
         };
-        differences += u32::from(!case.run(rt)?);
-    }
-    report(rt, 1000, differences, false)
+        Ok(Some(case.run(rt)?))
+    })?;
+    report(rt, cases, ending)
 }
 
 fn main(rt: HostRuntime) -> io::Result<()> {

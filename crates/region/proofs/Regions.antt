@@ -1,6 +1,7 @@
 -- The filter region exists, where there is one: its edges are finite and f32 holds them; and what a frame that is made of a sheet holds.
 -- Assumes nothing.
 use Rattle.std.specs.Prelude.{Err, None, Ok, Option, Some}
+use Rattle.std.proofs.lemmas.Option.{none-some}
 use Prim.Native.Nat.{ℕ}
 use mathlib.Core.Path.{◌≡◌, refl, subst}
 use mathlib.Core.Bool.{Bool, true, false, cond}
@@ -88,7 +89,7 @@ rect_made h u state = made_size (filter_x_in h u state) (filter_y_in h u state) 
 
 -- ---- the object's bounding box
 pub no_rect : (P : Rect → Type 0) (q : Rect) → None ≡ Some q → P q
-no_rect P q e = let z : ◌≡◌ {A = ℕ} 0 1 = cc in absurd (zero_one z)
+no_rect P q e = absurd (none-some q e)
 
 bounds_made : (b : Option Bounds) → Made (rect_of b)
 bounds_made None = no_rect (λ (r : Rect). T (is_rect r))

@@ -14,6 +14,8 @@ use Rattle.svgtree.specs.declared.Units.TheVariants as units
 use Rattle.units.specs.declared.State.{State}
 use Rattle.units.specs.Lengths.{percent, convert_units, resolve_number}
 use Rattle.region.specs.declared.Frame.{Frame}
+use Rattle.region.specs.declared.Side.{Side}
+use Rattle.region.specs.declared.Side.TheVariants as side
 
 -- "defaults objectBoundingBox, userSpaceOnUse"
 abbrev pub filter_units_of : Header → Units
@@ -46,6 +48,13 @@ filter_width_in h filter_units state = resolve_number (filter_width_of h) aid_wi
 
 abbrev pub filter_height_in : Header → Units → State → Float
 filter_height_in h filter_units state = resolve_number (filter_height_of h) aid_height filter_units state (filter_font_size_of h) (percent hundred_twenty)
+
+-- each of the four
+abbrev pub filter_side_in : Side → Header → Units → State → Float
+filter_side_in side.X h filter_units state = filter_x_in h filter_units state
+filter_side_in side.Y h filter_units state = filter_y_in h filter_units state
+filter_side_in side.Width h filter_units state = filter_width_in h filter_units state
+filter_side_in side.Height h filter_units state = filter_height_in h filter_units state
 
 -- the rectangle of the four, in filterUnits, if it exists
 unfoldable pub filter_rect_in : Header → Units → State → Option Rect

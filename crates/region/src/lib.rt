@@ -5,8 +5,7 @@
 ghost use Rattle.std.specs.Prelude.{◌≡◌};
 ghost use Rattle.geom.specs.Geometry.{placed};
 ghost use Rattle.svgtree.specs.Parse.{header_of};
-ghost use Rattle.units.specs.Lengths.{percent};
-ghost use Rattle.region.specs.Region.{minus_ten, hundred_twenty, state_of, filter_x_in, filter_y_in, filter_width_in, filter_height_in, filter_rect_in, placed_in, region_in, filter_region_of, frame_of};
+ghost use Rattle.region.specs.Region.{state_of, filter_side_in, filter_rect_in, placed_in, region_in, filter_region_of, frame_of};
 
 use answer::Refusal;
 use geom::{Rect, Size};
@@ -16,7 +15,7 @@ use svgtree::header::{
     primitive_units, view_box_height, view_box_width,
 };
 use svgtree::{Length, LengthUnit, Units};
-use units::{State, convert_units, resolve_number};
+use units::{LengthContext, State, convert_units};
 
 // What the children are converted with, beside the sheet that holds them: primitiveUnits, the filter region, the object's bounding box, the
 // view box and the resolution.
@@ -42,74 +41,42 @@ pub fn state_of(s: &[u8]) -> State
 
 // The filter element's rectangle.
 
-fn minus_ten_percent() -> Length
-    ensures { result ≡ percent minus_ten }
+const MINUS_TEN_PERCENT: Length = Length {
+    number: -10.0,
+    unit: LengthUnit::Percent,
+};
+
+const HUNDRED_TWENTY_PERCENT: Length = Length {
+    number: 120.0,
+    unit: LengthUnit::Percent,
+};
+
+// The filter element's four lengths.
+#[derive(Clone, Copy)]
+pub enum Side {
+    X,
+    Y,
+    Width,
+    Height,
+}
+
+// One of them as a number, with its default.
+pub fn resolve_side(s: &[u8], side: Side, units: Units, state: State) -> f32
+    ensures { result ≡ filter_side_in side (header_of s.now) units state }
 {
-    Length {
-        number: -10.0,
-        unit: LengthUnit::Percent,
+    let lengths = LengthContext {
+        units,
+        state,
+        font_size: filter_font_size(s),
+    };
+    match side {
+        Side::X => lengths.resolve_number(filter_x(s), aid::X, MINUS_TEN_PERCENT),
+        Side::Y => lengths.resolve_number(filter_y(s), aid::Y, MINUS_TEN_PERCENT),
+        Side::Width => lengths.resolve_number(filter_width(s), aid::WIDTH, HUNDRED_TWENTY_PERCENT),
+        Side::Height => {
+            lengths.resolve_number(filter_height(s), aid::HEIGHT, HUNDRED_TWENTY_PERCENT)
+        }
     }
-}
-
-fn hundred_twenty_percent() -> Length
-    ensures { result ≡ percent hundred_twenty }
-{
-    Length {
-        number: 120.0,
-        unit: LengthUnit::Percent,
-    }
-}
-
-pub fn resolve_x(s: &[u8], units: Units, state: State) -> f32
-    ensures { result ≡ filter_x_in (header_of s.now) units state }
-{
-    resolve_number(
-        filter_x(s),
-        aid::X,
-        units,
-        state,
-        filter_font_size(s),
-        minus_ten_percent(),
-    )
-}
-
-pub fn resolve_y(s: &[u8], units: Units, state: State) -> f32
-    ensures { result ≡ filter_y_in (header_of s.now) units state }
-{
-    resolve_number(
-        filter_y(s),
-        aid::Y,
-        units,
-        state,
-        filter_font_size(s),
-        minus_ten_percent(),
-    )
-}
-
-pub fn resolve_width(s: &[u8], units: Units, state: State) -> f32
-    ensures { result ≡ filter_width_in (header_of s.now) units state }
-{
-    resolve_number(
-        filter_width(s),
-        aid::WIDTH,
-        units,
-        state,
-        filter_font_size(s),
-        hundred_twenty_percent(),
-    )
-}
-
-pub fn resolve_height(s: &[u8], units: Units, state: State) -> f32
-    ensures { result ≡ filter_height_in (header_of s.now) units state }
-{
-    resolve_number(
-        filter_height(s),
-        aid::HEIGHT,
-        units,
-        state,
-        filter_font_size(s),
-        hundred_twenty_percent(),
-    )
 }
 
 #[tactic(auto, unfolding(crate::specs::Region::filter_rect_in))]
@@ -117,10 +84,10 @@ fn filter_rect(s: &[u8], units: Units, state: State) -> Option<Rect>
     ensures { result ≡ filter_rect_in (header_of s.now) units state }
 {
     Rect::from_xywh(
-        resolve_x(s, units, state),
-        resolve_y(s, units, state),
-        resolve_width(s, units, state),
-        resolve_height(s, units, state),
+        resolve_side(s, Side::X, units, state),
+        resolve_side(s, Side::Y, units, state),
+        resolve_side(s, Side::Width, units, state),
+        resolve_side(s, Side::Height, units, state),
     )
 }
 

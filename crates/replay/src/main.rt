@@ -5,9 +5,10 @@
 // f64's bits as its input, and the f32's as its number.
 #![tactic(auto)]
 
-ghost use Rattle.std.specs.Prelude.{◌≡◌, ◌+◌, ◌-◌, ◌^◌, ◌≤◌, ◌<◌};
+ghost use Rattle.std.specs.Prelude.{◌+◌, ◌≤◌};
 
 use bits::{get32, get64};
+use input::cases::{Ending, Tally, run_cases};
 use input::{ReadError, UNWRITTEN, is_unwritten, read_head, read_part};
 use std::io::Read;
 use std::{fs, io};
@@ -78,7 +79,7 @@ impl Buffers {
 }
 
 impl Case<'_> {
-    // Number, length, the bytes written, and the bytes not written.
+    // Number, length, the bytes written, and the bytes not written. Stored are the answers that C gets, so the numbers are compared and no `Result`.
     fn agrees(self) -> bool {
         let Case {
             call,
@@ -100,7 +101,7 @@ impl Case<'_> {
 }
 
 #[derive(Clone, Copy)]
-struct Tally {
+struct Counts {
     sheets: u32,
     records: u32,
     narrowed: u32,
@@ -108,11 +109,13 @@ struct Tally {
     ghost among_cases: { differences ≤ sheets + records + narrowed },
 }
 
-impl Tally {
-    fn count(&mut self, call: Call, agrees: bool)
-        requires { self.old.sheets + self.old.records + self.old.narrowed < 2 ^ 32 - 1 }
-        ensures { self.new.sheets + self.new.records + self.new.narrowed ≡ self.old.sheets + self.old.records + self.old.narrowed + 1 }
-    {
+impl Tally for Counts {
+    // What was called, and whether the answer agrees.
+    type Outcome = (Call, bool);
+
+    ghost cases = { λ t. t.sheets + t.records + t.narrowed };
+
+    fn count(&mut self, (call, agrees): (Call, bool)) {
         match call {
             Call::Sheet => self.sheets += 1,
             Call::Record => self.records += 1,
@@ -122,37 +125,32 @@ impl Tally {
     }
 }
 
-// The loop has a last turn, since nothing says that a file ends.
-fn run(file: &mut impl Read, buffers: &mut Buffers) -> io::Result<(Tally, bool)> {
-    let mut tally = Tally {
+fn run(file: &mut impl Read, buffers: &mut Buffers) -> io::Result<(Counts, Ending)> {
+    let none = Counts {
         sheets: 0,
         records: 0,
         narrowed: 0,
         differences: 0,
     };
-    for _ in 0..4_000_000_000u32 {
-        let case = match buffers.next_case(file) {
-            Ok(Some(case)) => case,
-            Ok(None) => return Ok((tally, true)),
-            Err(ReadError::Broken) => break,
-            Err(ReadError::Io(e)) => return Err(e),
+    run_cases(none, 4_000_000_000, || {
+        let Some(case) = buffers.next_case(file)? else {
+            return Ok(None);
         };
         let call = case.call;
-        tally.count(call, case.agrees());
-    }
-    Ok((tally, false))
+        Ok(Some((call, case.agrees())))
+    })
 }
 
-fn report(rt: &impl Print, tally: Tally, is_whole: bool) -> io::Result<()> {
-    let Tally {
+fn report(rt: &impl Print, counts: Counts, ending: Ending) -> io::Result<()> {
+    let Counts {
         sheets,
         records,
         narrowed,
         differences,
-    } = tally;
+    } = counts;
     print!(rt; "{sheets} sheets, {records} function records, ")?;
     println!(rt; "{narrowed} numbers narrowed, {differences} differences")?;
-    if !is_whole {
+    if let Ending::CutShort = ending {
         println!(rt; "the file is broken off")?;
     }
     Ok(())
@@ -165,6 +163,6 @@ fn main(rt: HostRuntime) -> io::Result<()> {
         out: [0; 65536],
         want: [0; 65536],
     };
-    let (tally, is_whole) = run(&mut file, &mut buffers)?;
-    report(&rt, tally, is_whole)
+    let (counts, ending) = run(&mut file, &mut buffers)?;
+    report(&rt, counts, ending)
 }

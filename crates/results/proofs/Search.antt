@@ -6,23 +6,24 @@ use mathlib.Core.List.{List, [], ◌∷◌, ◌++◌}
 use Prim.Native.Nat.{ℕ, zero, suc, ◌<◌}
 use native.Mathlib.Omega.{arith}
 use lib.ListN.{length, get_or}
+use Rattle.std.proofs.Math.Bool.{or-true}
+use Rattle.std.proofs.lemmas.Bool.{both_ways}
 use Rattle.bits.proofs.Sameness.{same_refl, same_eq}
 use Rattle.tree.specs.Input.{Name}
 use Rattle.naming.specs.Names.{w_result, member, Label, Own, Made, own_names}
 use Rattle.naming.specs.Agreement.{is_own}
-use Rattle.naming.proofs.Words.{both_ways, or_true}
 use Rattle.results.specs.Means.{entry_is, labels_is, NameTable, EarlierOwn}
 use Rattle.results.proofs.Tables.{own_cons}
 
 own_is : (t : Name) (l : Label) → is_own t l ≡ true → l ≡ Own t
 own_is t (Own u) e = ap Own (sym (same_eq t u e))
-own_is t (Made k) e = both_ways (is_own t (Made k)) e refl
+own_is t (Made k) e = absurd (both_ways false refl e)
 
 module _ (s : List ℕ) (t : Name) where
   found : (names : List ℕ) (n : ℕ) → member t (own_names (labels_is s names n)) ≡ true → EarlierOwn s names n t
   unfolding member own_names
-  found names zero e = both_ways _ e refl
-  found [] (suc n) e = both_ways _ e refl
+  found names zero e = absurd (both_ways false refl e)
+  found [] (suc n) e = absurd (both_ways false refl e)
   found (x ∷ xs) (suc n) e = go (is_own t (entry_is s x)) refl (found xs n)
     where
       go : (b : Bool) → is_own t (entry_is s x) ≡ b → (member t (own_names (labels_is s xs n)) ≡ true → EarlierOwn s xs n t) → EarlierOwn s (x ∷ xs) (suc n) t
@@ -36,7 +37,7 @@ module _ (s : List ℕ) (t : Name) where
   there [] (suc n) j h l e = absurd (omega arith)
   there (x ∷ xs) (suc n) zero h l e = own_cons t (entry_is s x) (labels_is s xs n) ∙ rw (e, same_refl t)
   there (x ∷ xs) (suc n) (suc j) h l e =
-      own_cons t (entry_is s x) (labels_is s xs n) ∙ rw (there xs n j (omega arith) (omega arith) e) (or_true (is_own t (entry_is s x)))
+      own_cons t (entry_is s x) (labels_is s xs n) ∙ rw (there xs n j (omega arith) (omega arith) e) (or-true (is_own t (entry_is s x)))
 
 -- The search for `result` and any bytes ds, by the contract of `taken`
 

@@ -4,7 +4,8 @@ ghost use Rattle.results.specs.Means.{Marked};
 
 use std::marker::Model;
 
-// What a record is called, as one number, so that a search tests an entry by one comparison: a clause sees it as that number, `entry_is`.
+// What a record is called, as one number and no `ResultName`: a search passes over an entry by one comparison. With a second test for each entry it took 14 instructions an
+// entry in place of 10. A clause sees it as that number, `entry_is`.
 #[derive(Clone, Copy, PartialEq, Eq)]
 pub struct Entry {
     pub code: u64,

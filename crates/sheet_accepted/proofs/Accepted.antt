@@ -1,10 +1,11 @@
 -- The nodes of an accepted sheet are accepted nodes, and so are the nodes behind one of them and its children. Assumes nothing.
+use Rattle.std.proofs.lemmas.Bool.{or_parts}
 use Rattle.std.specs.Prelude.{Err, Ok}
 use Prim.Native.Nat.{ℕ, zero, suc, ◌+◌, ◌≤◌, ◌<◌}
 use native.Mathlib.Nat.{add-zero}
 use native.Mathlib.Omega.{arith}
-use mathlib.Core.Path.{◌≡◌, refl, sym, ap, subst}
-use mathlib.Core.Bool.{Bool, true, false, not, cond, ◌||◌}
+use mathlib.Core.Path.{◌≡◌, refl, sym, subst}
+use mathlib.Core.Bool.{Bool, true, false, not, cond}
 use mathlib.Core.List.{List, [], ◌∷◌}
 use lib.Dec.{T, ltb, eqb}
 use lib.ListN.{length, get_or}
@@ -16,6 +17,7 @@ use Rattle.sheet_fields.specs.Fields.{header_pairs}
 use Rattle.svgtree.specs.Values.{Node}
 use Rattle.svgtree.specs.Readers.{child_nodes}
 use Rattle.svgtree.specs.Parse.{places_of, count_of, offset_of, node_at, nodes_from, header_of, sheet_of}
+use Rattle.svgtree.proofs.Following.{nodes_length}
 use Rattle.field_tests.specs.Tests.{all}
 use Rattle.sheet_layout.specs.Records.{node_record_at, node_records_from}
 use Rattle.sheet_layout.specs.Layout.{node_record_ok, layout_ok}
@@ -50,38 +52,29 @@ passed s h =
         (cond (not l) (Err OutsideLimits)
         (cond (not d) (Err BadNumber)
         (cond (not e) (Err Image) (Ok (tt {0})))))))) ≡ (Ok (tt {0})) → Passed s
-    go true b c g l d e p q u v r h = let z : ◌≡◌ {A = ℕ} 0 1 = cc in absurd (omega arith)
-    go false true c g l d e p q u v r h = let z : ◌≡◌ {A = ℕ} 0 1 = cc in absurd (omega arith)
-    go false false false g l d e p q u v r h = let z : ◌≡◌ {A = ℕ} 0 1 = cc in absurd (omega arith)
-    go false false true false l d e p q u v r h = let z : ◌≡◌ {A = ℕ} 0 1 = cc in absurd (omega arith)
-    go false false true true false d e p q u v r h = let z : ◌≡◌ {A = ℕ} 0 1 = cc in absurd (omega arith)
-    go false false true true true false e p q u v r h = let z : ◌≡◌ {A = ℕ} 0 1 = cc in absurd (omega arith)
+    go true b c g l d e p q u v r h = cc
+    go false true c g l d e p q u v r h = cc
+    go false false false g l d e p q u v r h = cc
+    go false false true false l d e p q u v r h = cc
+    go false false true true false d e p q u v r h = cc
+    go false false true true true false e p q u v r h = cc
     go false false true true true true e p q u v r h = record { small = p; layout = rw q tt; grammar = rw u tt; limits = rw v tt; numbers = rw r tt }
-
-neither : (a b : Bool) → (a || b) ≡ false → (a ≡ false) × (b ≡ false)
-neither true b e = let z : ◌≡◌ {A = ℕ} 0 1 = cc in absurd (omega arith)
-neither false b e = (refl, e)
 
 -- "sheet over 65,536 bytes, or node count over 512" is refused
 module _ (s : List ℕ) (h : first_refusal s ≡ (Ok (tt {0}))) where
   pub short_sheet : length s ≤ 65536
   unfolding too_large
-  short_sheet = ltb-false 65536 (length s) (neither (ltb 65536 (length s)) (ltb 512 (count_of s)) (passed s h).small).0
+  short_sheet = ltb-false 65536 (length s) (or_parts (ltb 65536 (length s)) (ltb 512 (count_of s)) (passed s h).small).0
 
   pub few_nodes : count_of s ≤ 512
   unfolding too_large
-  few_nodes = ltb-false 512 (count_of s) (neither (ltb 65536 (length s)) (ltb 512 (count_of s)) (passed s h).small).1
+  few_nodes = ltb-false 512 (count_of s) (or_parts (ltb 65536 (length s)) (ltb 512 (count_of s)) (passed s h).small).1
 
 nodes_passed : (s : List ℕ) → T (numbers_ok (sheet_of s)) → T (all node_numbers_ok (nodes_from s 0 (count_of s)))
 unfolding numbers_ok sheet_of
 nodes_passed s h = and_r (header_numbers_ok (header_of s)) (all node_numbers_ok (nodes_from s 0 (count_of s))) h
 
 -- ---- the nodes
-
-pub nodes_length : (s : List ℕ) (i n : ℕ) → length (nodes_from s i n) ≡ n
-unfolding nodes_from
-nodes_length s i zero = refl
-nodes_length s i (suc n) = ap suc (nodes_length s (i + 1) n)
 
 module _ (s : List ℕ) (bytes : (i : ℕ) → get_or s i 0 < 256) where
   each_accepted : (i n : ℕ) → T (all node_record_ok (node_records_from s i n)) → ((k : ℕ) → k < n → Each (ReadTextAt s) (places_of s (offset_of s (i + k)))) → T (all node_numbers_ok (nodes_from s i n))

@@ -16,7 +16,8 @@ use Rattle.sheet_fields.specs.Fields.{marked_number, marked_number_size, tries_s
 use Rattle.sheet_fields.specs.BoxFields.{header_box_y, header_box_width, header_box_height}
 use Rattle.svgtree.specs.Values.{text_value, number_value, numbers_value, color_value, tries_value}
 use Rattle.svgtree.specs.Parse.{singles_from, length_at, color_at, try_at, tried_at, value_at, attribute_at, places_of, node_from, count_of, header_length, header_of}
-use Rattle.sheet_layout.proofs.Runs.{byte_in, run_in}
+use Rattle.bits.proofs.Runs.{get_or-bytes_from}
+use Rattle.sheet_layout.proofs.Runs.{run_in}
 use Rattle.sheet_accepted.proofs.ByKind.{InKind, unreadable, text, number, numbers, plain_length_value, color, tries, typed}
 
 module _ (s t : List ℕ) where
@@ -24,7 +25,7 @@ module _ (s t : List ℕ) where
 
   module _ (a b n : ℕ) (e : bytes_from s a n ≡ bytes_from t b n) where
     byte_moved : (i : ℕ) → i < n → get_or s (a + i) 0 ≡ get_or t (b + i) 0
-    byte_moved i h = sym (byte_in s a n i h) ∙ ap (λ (l : List ℕ). get_or l i 0) e ∙ byte_in t b n i h
+    byte_moved i h = sym (get_or-bytes_from s a n i h) ∙ ap (λ (l : List ℕ). get_or l i 0) e ∙ get_or-bytes_from t b n i h
 
     first_moved : 0 < n → get_or s a 0 ≡ get_or t b 0
     first_moved h = rw (add-zero a, add-zero b) at (byte_moved 0 h)

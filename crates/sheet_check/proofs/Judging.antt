@@ -1,24 +1,30 @@
 -- Laws on faults: along attributes and nodes, and that the worst fault of all says which of 10, 11 and 3 comes first. Assumes nothing.
-use Prim.Native.Nat.{ℕ, zero, suc, ◌+◌, ◌-◌, ◌<◌, ◌≤◌}
-use native.Mathlib.Omega.{arith}
+use Prim.Native.Nat.{ℕ, zero, suc, ◌+◌}
 use mathlib.Core.Path.{◌≡◌, refl, ap, ap₂, sym, ◌∙◌}
-use mathlib.Core.List.{List, [], ◌∷◌, ◌++◌, map}
+use mathlib.Core.List.{List, [], ◌∷◌, ◌++◌, map, map-map}
 use mathlib.Core.Bool.{Bool, true, false, not, ◌&&◌, cond, or-true, and-false, and-true}
 use lib.Dec.{eqb}
 use borrow.Author.Tests.{eqb-true}
-use Rattle.std.specs.Prelude.{Option, Some, None}
+use Rattle.std.specs.Prelude.{Option, Some, None, Err}
+use Rattle.answer.specs.declared.Refusal.TheVariants.{OutsideGrammar, OutsideLimits}
 use Rattle.bits.specs.Bytes.{bytes_from}
 use Rattle.num.specs.Sign.{positive}
 use Rattle.sheet_fields.specs.Fields.{kind_typed}
 use Rattle.number_list.specs.Outcome.{TextOutcome, outside_grammar, outside_limits, passed, text_outcome}
 use Rattle.number_list.specs.Means.{outcome_check}
-use Rattle.svgtree.specs.Parse.{attribute_kind_at, attribute_length_at, value_place, next_place, value_at, attribute_at, places_from, places_of, count_of, offset_of, node_from, nodes_from, sheet_of}
+use Rattle.svgtree.specs.Parse.{attribute_kind_at, attribute_length_at, value_place, value_at, attribute_at, places_of, count_of, offset_of, node_from, nodes_from, sheet_of}
+use Rattle.svgtree.specs.declared.attributes.Attribute.{Attribute}
+use Rattle.svgtree.specs.Listed.{read_at, read_from, read_of}
+use Rattle.svgtree.specs.declared.SvgNode.{SvgNode}
+use Rattle.svgtree.specs.Nodes.{handles_from}
+use denote.Ref.{Bor}
 use Rattle.field_tests.specs.Tests.{all}
 use Rattle.sheet_check.specs.Numbers.{value_numbers_ok, opacity_ok, attribute_numbers_ok, node_numbers_ok, header_numbers_ok, numbers_ok}
 use Rattle.sheet_check.specs.Texts.{texts_in, texts_from, typed_texts, outcome_in_grammar, outcome_in_limits, text_in_grammar, text_in_limits, grammar_ok, limits_ok}
 use Rattle.sheet_check.specs.declared.faults.Fault.{Fault}
 use Rattle.sheet_check.specs.declared.faults.Fault.TheVariants.{Number, Limits, Grammar}
-use Rattle.sheet_check.specs.Means.{text_fault, number_fault, worse_of, worst, attribute_fault, node_fault, node_faults}
+use Rattle.sheet_check.specs.Refusals.{values_refusal}
+use Rattle.sheet_check.specs.Means.{refusal_from, text_fault, number_fault, worse_of, worst, fault_of, attribute_fault, node_fault, fault_of_node, node_faults}
 use Rattle.sheet_check.proofs.Numbering.{typed_finite}
 
 -- ---- the worse of two faults
@@ -53,34 +59,37 @@ worse_assoc (Some Limits) (Some Limits) (Some Grammar) = refl
 worse_assoc (Some Limits) (Some Grammar) c = refl
 worse_assoc (Some Grammar) b c = refl
 
--- ---- n attributes from a place on, behind the first i, and the nodes from number i on, of n
+-- ---- a node's attributes, and the nodes from number i on, of n
 
-module _ (s : List ℕ) (at n i : ℕ) where
-  pub attributes_step : i < n
-      → worst (map (attribute_fault s) (places_from s at (n - i))) ≡ worse_of (attribute_fault s at) (worst (map (attribute_fault s) (places_from s (next_place s at) (n - (i + 1)))))
-  unfolding places_from worst
-  attributes_step h =
-      let e : n - i ≡ suc (n - (i + 1)) = omega arith in
-      ap (λ (k : ℕ). worst (map (attribute_fault s) (places_from s at k))) e
+module _ (s : List ℕ) where
+  pub faults_listed : (at : ℕ) → worst (map (attribute_fault s) (places_of s at)) ≡ worst (map (fault_of s) (read_of s at))
+  unfolding read_from attribute_fault attribute_at
+  faults_listed at = sym (ap worst (map-map (fault_of s) (read_at s) (places_of s at)))
 
-  pub attributes_none : n ≤ i → worst (map (attribute_fault s) (places_from s at (n - i))) ≡ None
-  unfolding places_from worst
-  attributes_none h =
-      let e : n - i ≡ 0 = omega arith in
-      ap (λ (k : ℕ). worst (map (attribute_fault s) (places_from s at k))) e
+  pub attributes_step : (a : Attribute) (rest : List Attribute) → worst (map (fault_of s) (a ∷ rest)) ≡ worse_of (fault_of s a) (worst (map (fault_of s) rest))
+  unfolding worst
+  attributes_step a rest = refl
 
-module _ (s : List ℕ) (i n : ℕ) where
-  pub nodes_step : i < n → worst (node_faults s i (n - i)) ≡ worse_of (node_fault s (offset_of s i)) (worst (node_faults s (i + 1) (n - (i + 1))))
-  unfolding node_faults worst
-  nodes_step h =
-      let e : n - i ≡ suc (n - (i + 1)) = omega arith in
-      ap (λ (k : ℕ). worst (node_faults s i k)) e
+  pub attributes_end : (found : Option Fault) (rest : List Attribute) → rest ≡ [] → worse_of found (worst (map (fault_of s) rest)) ≡ found
+  unfolding worst
+  attributes_end found rest e = rw e (worse_none found)
 
-  pub nodes_none : n ≤ i → worst (node_faults s i (n - i)) ≡ None
-  unfolding node_faults worst
-  nodes_none h =
-      let e : n - i ≡ 0 = omega arith in
-      ap (λ (k : ℕ). worst (node_faults s i k)) e
+-- the faults of the nodes that the code gives
+pub faults_handled : (bytes : Bor (List ℕ)) (i n : ℕ) → node_faults bytes.now i n ≡ map fault_of_node (handles_from bytes i n)
+unfolding node_faults handles_from
+faults_handled bytes i zero = refl
+faults_handled bytes i (suc n) = rw (faults_handled bytes (i + 1) n)
+
+pub nodes_begun : (bytes : Bor (List ℕ)) (i n : ℕ) → worst (node_faults bytes.now i n) ≡ worst (map fault_of_node (handles_from bytes i n))
+nodes_begun bytes i n = ap worst (faults_handled bytes i n)
+
+pub nodes_step : (n : SvgNode) (rest : List SvgNode) → worst (map fault_of_node (n ∷ rest)) ≡ worse_of (fault_of_node n) (worst (map fault_of_node rest))
+unfolding worst
+nodes_step n rest = refl
+
+pub nodes_end : (found : Option Fault) (rest : List SvgNode) → rest ≡ [] → worse_of found (worst (map fault_of_node rest)) ≡ found
+unfolding worst
+nodes_end found rest e = rw e (worse_none found)
 
 -- ---- a fault, by the three tests in their order
 
@@ -208,19 +217,26 @@ module _ (s : List ℕ) where
   by_tests : faults ≡ judged (all text_in_grammar (typed_texts s)) (all text_in_limits (typed_texts s)) numbers
   by_tests = nodes_judged s 0 (count_of s)
 
-  pub grammar_broken : Some Grammar ≡ faults → grammar_ok s ≡ false
+  grammar_broken : Some Grammar ≡ faults → grammar_ok s ≡ false
   unfolding grammar_ok
   grammar_broken e = is_grammar (all text_in_grammar (typed_texts s)) (all text_in_limits (typed_texts s)) numbers (e ∙ by_tests)
 
-  pub limits_broken : Some Limits ≡ faults → (grammar_ok s ≡ true) × (limits_ok s ≡ false)
+  limits_broken : Some Limits ≡ faults → (grammar_ok s ≡ true) × (limits_ok s ≡ false)
   unfolding grammar_ok limits_ok
   limits_broken e = is_limits (all text_in_grammar (typed_texts s)) (all text_in_limits (typed_texts s)) numbers (e ∙ by_tests)
 
-  pub number_broken : Some Number ≡ faults → (grammar_ok s ≡ true) × (limits_ok s ≡ true) × (numbers_ok (sheet_of s) ≡ false)
+  number_broken : Some Number ≡ faults → (grammar_ok s ≡ true) × (limits_ok s ≡ true) × (numbers_ok (sheet_of s) ≡ false)
   unfolding grammar_ok limits_ok numbers_ok sheet_of
   number_broken e =
       let h = is_number (all text_in_grammar (typed_texts s)) (all text_in_limits (typed_texts s)) numbers (e ∙ by_tests) in
       (h.0, h.1, rw h.2 (and-false (header_numbers_ok (sheet_of s).header)))
+
+  -- a fault of the nodes is what the sheet is refused for
+  pub refused : (f : Fault) → Some f ≡ faults
+      → cond (not (grammar_ok s)) (Err OutsideGrammar) (cond (not (limits_ok s)) (Err OutsideLimits) (values_refusal (sheet_of s))) ≡ Err (refusal_from f)
+  refused Grammar e = rw (grammar_broken e)
+  refused Limits e = let h = limits_broken e in rw (h.0, h.1)
+  refused Number e = let h = number_broken e in rw (h.0, h.1, h.2)
 
   pub no_fault : None ≡ faults → (grammar_ok s ≡ true) × (limits_ok s ≡ true) × (numbers_ok (sheet_of s) ≡ header_numbers_ok (sheet_of s).header)
   unfolding grammar_ok limits_ok numbers_ok sheet_of
@@ -229,10 +245,10 @@ module _ (s : List ℕ) where
       (h.0, h.1, rw h.2 (and-true (header_numbers_ok (sheet_of s).header)))
 
 -- the worst fault along attributes
-pub ruleset along_attributes = (attributes_step, attributes_none, worse_none, worse_assoc)
+pub ruleset along_attributes = (faults_listed, attributes_step, attributes_end, worse_assoc)
 
 -- and along nodes
-pub ruleset along_nodes = (nodes_step, nodes_none, worse_none, worse_assoc)
+pub ruleset along_nodes = (nodes_begun, nodes_step, nodes_end, worse_assoc)
 
 -- what the worst fault says of the sheet
-pub ruleset judging = (grammar_broken, limits_broken, number_broken, no_fault)
+pub ruleset judging = (refused, no_fault)

@@ -7,19 +7,31 @@ use Rattle.num.specs.Sign.{positive}
 use Rattle.number_list.specs.Outcome.{text_outcome}
 use Rattle.number_list.specs.Means.{outcome_check}
 use Rattle.sheet_fields.specs.Fields.{kind_typed}
+use Rattle.svgtree.specs.declared.attributes.Attribute.{Attribute}
 use Rattle.svgtree.specs.Values.{Sheet}
+use Rattle.svgtree.specs.declared.SvgNode.{SvgNode}
+use Rattle.svgtree.specs.Listed.{value_bytes, attribute_of}
 use Rattle.svgtree.specs.Parse.{attribute_kind_at, attribute_length_at, value_place, attribute_at, places_of, offset_of, node_from}
-use Rattle.answer.specs.declared.Refusal.TheVariants.{BadNumber, Image}
+use Rattle.answer.specs.declared.Refusal.TheVariants.{BadNumber, Image, OutsideGrammar, OutsideLimits}
 use Rattle.sheet_check.specs.Numbers.{attribute_numbers_ok, header_numbers_ok}
 use Rattle.sheet_check.specs.Refusals.{no_image}
 use Rattle.sheet_check.specs.declared.faults.Fault.{Fault}
 use Rattle.sheet_check.specs.declared.faults.Fault.TheVariants.{Number, Limits, Grammar}
 use Rattle.decimal.specs.declared.TextFault.TheVariants as fault
 
+-- a text's fault as one of the sheet, and a fault's number
+abbrev pub fault_from : TextFault → Fault
+fault_from fault.OutsideLimits = Limits
+fault_from fault.OutsideGrammar = Grammar
+
+abbrev pub refusal_from : Fault → Refusal
+refusal_from Number = BadNumber
+refusal_from Limits = OutsideLimits
+refusal_from Grammar = OutsideGrammar
+
 abbrev pub text_fault : Result (Unit {0}) TextFault → Option Fault
 text_fault (Ok tt) = None
-text_fault (Err fault.OutsideLimits) = Some Limits
-text_fault (Err fault.OutsideGrammar) = Some Grammar
+text_fault (Err text) = Some (fault_from text)
 
 abbrev pub number_fault : Bool → Option Fault
 number_fault ok = cond ok None (Some Number)
@@ -44,6 +56,13 @@ unfoldable pub worst : List (Option Fault) → Option Fault
 worst [] = None
 worst (x ∷ xs) = worse_of x (worst xs)
 
+-- the fault of an attribute that the code gives
+abbrev pub fault_of : List ℕ → Attribute → Option Fault
+fault_of s a =
+    cond (eqb a.value.kind kind_typed)
+    (text_fault (outcome_check (text_outcome (value_bytes s a.value))))
+    (number_fault (attribute_numbers_ok (attribute_of s a)))
+
 -- the fault of the attribute at a place: of a typed list its text's, of any other its numbers'
 unfoldable pub attribute_fault : List ℕ → ℕ → Option Fault
 attribute_fault s at =
@@ -54,6 +73,10 @@ attribute_fault s at =
 -- of the node at a place: its font size's and its attributes'
 unfoldable pub node_fault : List ℕ → ℕ → Option Fault
 node_fault s at = worse_of (number_fault (positive (node_from s at).font_size)) (worst (map (attribute_fault s) (places_of s at)))
+
+-- and of a node that the code gives
+abbrev pub fault_of_node : SvgNode → Option Fault
+fault_of_node n = node_fault n.bytes.now n.at
 
 -- of n nodes from number i on
 unfoldable pub node_faults : List ℕ → (i n : ℕ) → List (Option Fault)

@@ -1,8 +1,9 @@
 // What is wrong with the values of a sheet's nodes. The tests of refusals 10, 11 and 3 go over the whole sheet, one after the other; here one walk keeps the
 // worst fault.
 ghost use Rattle.std.specs.Prelude.{◌≡◌};
-ghost use Rattle.sheet_check.specs.Means.{text_fault, number_fault, worse_of};
+ghost use Rattle.sheet_check.specs.Means.{fault_from, refusal_from, number_fault, worse_of};
 
+use answer::Refusal;
 use decimal::TextFault;
 
 // The worst last: a number that 3 refuses, a typed list outside the limits (11), one outside the grammar (10). No fault is better than any.
@@ -13,13 +14,26 @@ pub enum Fault {
     Grammar,
 }
 
-pub(crate) fn text_fault(text: Result<(), TextFault>) -> Option<Fault>
-    ensures { result ≡ text_fault text }
-{
-    match text {
-        Ok(()) => None,
-        Err(TextFault::OutsideLimits) => Some(Fault::Limits),
-        Err(TextFault::OutsideGrammar) => Some(Fault::Grammar),
+impl From<TextFault> for Fault {
+    ghost from_gives = { λ text fault. fault ≡ fault_from text };
+
+    fn from(text: TextFault) -> Fault {
+        match text {
+            TextFault::OutsideLimits => Fault::Limits,
+            TextFault::OutsideGrammar => Fault::Grammar,
+        }
+    }
+}
+
+impl From<Fault> for Refusal {
+    ghost from_gives = { λ fault refusal. refusal ≡ refusal_from fault };
+
+    fn from(fault: Fault) -> Refusal {
+        match fault {
+            Fault::Number => Refusal::BadNumber,
+            Fault::Limits => Refusal::OutsideLimits,
+            Fault::Grammar => Refusal::OutsideGrammar,
+        }
     }
 }
 

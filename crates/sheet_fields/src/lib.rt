@@ -107,7 +107,8 @@ pub mod tries {
     pub const THIRD: usize = 18;
 }
 
-// The space that filterUnits and primitiveUnits name. Constants, since the enum is svgtree's `Units`, which has no absent one.
+// The space that filterUnits and primitiveUnits name. Constants, and no discriminants as `ValueKind` has: svgtree's `Units` has two spaces, and each other byte says that
+// they are absent, so the layout's test and the reader both need the bytes by name.
 pub mod space {
     pub const USER_SPACE_ON_USE: u8 = 0;
 
@@ -116,7 +117,8 @@ pub mod space {
     pub const ABSENT: u8 = 2;
 }
 
-// svgtypes' units of a length. Constants, since the enum is svgtree's `LengthUnit`, which has no absent one.
+// svgtypes' units of a length. Constants, and no discriminants as `ValueKind` has: svgtree's `LengthUnit` is given for every byte (any other is None), and the header's absent
+// unit is no unit, so the layout's test and the reader both need the bytes by name.
 pub mod unit {
     pub const EM: u8 = 1;
 

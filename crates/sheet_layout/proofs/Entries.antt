@@ -1,6 +1,6 @@
 -- The attributes of a node, tested one after the other: what the loop tests from a place on is what the layout says of the list.
 -- Assumes nothing.
-use Prim.Native.Nat.{ℕ, zero, suc, ◌+◌, ◌-◌, ◌<◌, ◌≤◌}
+use Prim.Native.Nat.{ℕ, zero, suc, ◌+◌, ◌≤◌}
 use native.Mathlib.Omega.{arith}
 use native.Mathlib.Nat.{add-zero}
 use mathlib.Core.Path.{◌≡◌, refl, sym, ap, ◌∙◌}
@@ -10,10 +10,12 @@ use lib.Dec.{eqb, leb, ltb}
 use borrow.Author.Tests.{eq-eqb, ne_eqb, eqb-true, eqb-false, le-leb, lt-ltb, le-ltb, leb-true, leb-false}
 use Rattle.sheet_fields.specs.Fields.{node_attributes}
 use Rattle.bits.proofs.Runs.{length-bytes_from}
-use Rattle.svgtree.specs.Parse.{attribute_id, attribute_length_at, value_place, next_place, places_from, attributes_place}
+use Rattle.svgtree.specs.Parse.{attribute_id, attribute_length_at, value_place, next_place, places_from, places_of, attributes_place, attribute_count}
+use Rattle.svgtree.specs.declared.attributes.Attribute.{Attribute}
+use Rattle.svgtree.specs.Listed.{read_from, read_of}
 use Rattle.sheet_layout.specs.Tests.{rising, sum}
 use Rattle.field_tests.specs.Tests.{all}
-use Rattle.sheet_layout.specs.Records.{Entry, entry_at, entry_size}
+use Rattle.sheet_layout.specs.Records.{Entry, entry_at, entry_of, entry_size}
 use Rattle.sheet_layout.specs.Layout.{entry_ok, entries_ok}
 
 -- two tests that hold together are the same test
@@ -48,11 +50,10 @@ rising_from_lem (x ∷ l) =
     let z : 0 ≤ x = omega arith in
     rising_after x l ∙ simp (le-leb 0 x z)
 
--- what the loop tests: n attributes from a place on, with ids from `low` on that rise, up to `end`
-unfoldable pub looped : List ℕ → (depth end at n low : ℕ) → Bool
-looped s depth end at zero low = eqb at end
-looped s depth end at (suc n) low =
-    leb low (attribute_id s at) && entry_ok depth (entry_at s at) && looped s depth end (next_place s at) n (attribute_id s at + 1)
+-- what the loop tests: attributes that begin at a place, with ids from `low` on that rise, up to `end`
+unfoldable pub looped : List ℕ → (depth end at : ℕ) → List Attribute → (low : ℕ) → Bool
+looped s depth end at [] low = eqb at end
+looped s depth end at (a ∷ rest) low = leb low a.id && entry_ok depth (entry_of s a) && looped s depth end (a.value.at + a.value.len) rest (a.id + 1)
 
 shuffle : (o a l r e : Bool) → (o && a && (l && r) && e) ≡ (l && o && (a && r && e))
 shuffle true a true r e = refl
@@ -72,8 +73,8 @@ looped_is : (s : List ℕ) (depth end at n low : ℕ)
     → (all (entry_ok depth) (entries_from s at n)
     && rising_from low (map (λ e. e.id) (entries_from s at n))
     && eqb (at + sum (map entry_size (entries_from s at n))) end)
-    ≡ looped s depth end at n low
-unfolding all rising_from sum places_from looped entry_at
+    ≡ looped s depth end at (read_from s at n) low
+unfolding all rising_from sum places_from looped entry_at read_from
 looped_is s depth end at zero low = rw (add-zero at)
 looped_is s depth end at (suc n) low =
     let next = next_place s at in
@@ -84,30 +85,24 @@ looped_is s depth end at (suc n) low =
     ∙ ap (λ (t : Bool). leb low (attribute_id s at) && entry_ok depth (entry_at s at) && t)
     (ap (λ (k : ℕ). all (entry_ok depth) l && rising_from (attribute_id s at + 1) (map (λ e. e.id) l) && eqb k end) e ∙ looped_is s depth end next n (attribute_id s at + 1))
 
-pub entries_looped : (s : List ℕ) (depth size node n : ℕ)
-    → entries_ok depth size (map (entry_at s) (places_from s (attributes_place node) n)) ≡ looped s depth (node + size) (attributes_place node) n 0
+pub entries_looped : (s : List ℕ) (depth size node : ℕ)
+    → entries_ok depth size (map (entry_at s) (places_of s node)) ≡ looped s depth (node + size) (attributes_place node) (read_of s node) 0
 unfolding entries_ok
-entries_looped s depth size node n =
-    let l : List Entry = entries_from s (attributes_place node) n in
+entries_looped s depth size node =
+    let l : List Entry = entries_from s (attributes_place node) (attribute_count s node) in
     let t = sum (map entry_size l) in
     rw (rising_from_lem (map (λ e. e.id) l), same_test (node_attributes + t) size (attributes_place node + t) (node + size) (λ h. omega arith) (λ h. omega arith))
-    (looped_is s depth (node + size) (attributes_place node) n 0)
+    (looped_is s depth (node + size) (attributes_place node) (attribute_count s node) 0)
 
--- behind the first i of n
-module _ (s : List ℕ) (depth end at n i low : ℕ) where
-  pub looped_end : n ≤ i → looped s depth end at (n - i) low ≡ eqb at end
+module _ (s : List ℕ) (depth end at low : ℕ) where
+  pub looped_end : looped s depth end at [] low ≡ eqb at end
   unfolding looped
-  looped_end h =
-      let e : n - i ≡ 0 = omega arith in
-      ap (λ (k : ℕ). looped s depth end at k low) e
+  looped_end = refl
 
-  pub looped_step : i < n
-      → looped s depth end at (n - i) low
-      ≡ (leb low (attribute_id s at) && entry_ok depth (entry_at s at) && looped s depth end (next_place s at) (n - (i + 1)) (attribute_id s at + 1))
+  pub looped_step : (a : Attribute) (rest : List Attribute)
+      → looped s depth end at (a ∷ rest) low ≡ (leb low a.id && entry_ok depth (entry_of s a) && looped s depth end (a.value.at + a.value.len) rest (a.id + 1))
   unfolding looped
-  looped_step h =
-      let e : n - i ≡ suc (n - (i + 1)) = omega arith in
-      ap (λ (k : ℕ). looped s depth end at k low) e
+  looped_step a rest = refl
 
 -- the test of all attributes, a turn of it, and its end
 pub ruleset looping = (entries_looped, looped_step, looped_end)

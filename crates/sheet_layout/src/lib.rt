@@ -2,22 +2,23 @@
 #![tactic(auto)]
 
 ghost use Rattle.std.specs.Prelude.{◌≡◌, map, false, not, cond, ◌&&◌, ◌||◌, ◌+◌, ◌^◌, ◌<◌, length, get_or, eqb, leb};
-ghost use Rattle.bits.specs.Bytes.{bytes_from};
 ghost use Rattle.sheet_fields.specs.Fields.{kind_text, kind_numbers, kind_length, kind_tries, tries_second, tries_third};
-ghost use Rattle.svgtree.specs.Parse.{places_from, node_depth, node_tag_at, attribute_count, node_zero_at, attributes_place, count_of, pair_place};
-ghost use Rattle.svgtree.specs.Means.{HeadAt};
+ghost use Rattle.svgtree.specs.Parse.{places_of, node_depth, node_tag_at, attribute_count, node_zero_at, count_of, pair_place};
+ghost use Rattle.svgtree.specs.Listed.{value_bytes};
+ghost use Rattle.svgtree.specs.Nodes.{node_of};
 ghost use Rattle.field_tests.specs.Tests.{all};
-ghost use Rattle.sheet_layout.specs.Records.{entry_at, node_record_at, node_records_from};
+ghost use Rattle.sheet_layout.specs.Records.{entry_at, entry_of, node_record_at, node_records_from};
 ghost use Rattle.sheet_layout.specs.Layout.{header_length_ok, header_lengths_ok, header_ok, touch, try_ok, bytes_ok, word_ok, entry_ok, entries_ok, node_head_ok, node_record_ok, depths_ok, layout_ok};
 
 use bits::{byte, is_utf8, run_is};
 use field_tests::{is_zero, marked_ok};
 use names::{aid, kind_allowed, tag_ok};
 use sheet_fields::kind::ValueKind;
-use sheet_fields::{attribute, header, marked, node, size, space, tries, unit};
-use svgtree::attributes::{head_at, next_place, value_place};
+use sheet_fields::{header, marked, node, size, space, tries, unit};
+use svgtree::attributes::Attribute;
 use svgtree::nodes::{node_count, pair_length, pair_offset, pair_place};
-use svgtree::{Head, SvgNode};
+use svgtree::run::NodeRun;
+use svgtree::{Found, SvgNode};
 
 // The header.
 
@@ -31,6 +32,7 @@ fn header_length_ok(s: &[u8], at: usize) -> bool
         || (first == unit::ABSENT && is_zero(s, at + marked::NUMBER, marked::NUMBER_SIZE))
 }
 
+// One after the other, as in the definition: a loop over four places would need a lemma to say what this says as it stands.
 #[tactic(auto, unfolding(crate::specs::Layout::header_lengths_ok))]
 fn header_lengths_ok(s: &[u8]) -> bool
     ensures { result ≡ header_lengths_ok s.now }
@@ -57,7 +59,8 @@ fn header_ok(s: &[u8]) -> bool
         && header_lengths_ok(s)
 }
 
-// Whether the records touch, from the end of the pairs to the end of the sheet.
+// Whether the records touch, from the end of the pairs to the end of the sheet. A `for` with a place that moves on: a `try_fold` over it is the same in a closure, with an
+// Option to be taken apart behind it.
 #[tactic(auto, using(crate::proofs::Following::touching))]
 fn records_touch(s: &[u8]) -> bool
     ensures { result ≡ touch (pair_place (count_of s.now)) (length s.now) (node_records_from s.now 0 (count_of s.now)) }
@@ -75,25 +78,25 @@ fn records_touch(s: &[u8]) -> bool
 
 // Attributes. A value is a place and a length. No slices: a value may reach past the lent bytes, where zeros are read, and no caller has to rule that out.
 
-#[tactic(auto, using(crate::proofs::Runs::value_bytes), unfolding(crate::specs::Layout::bytes_ok))]
-fn text_ok(s: &[u8], at: u32, len: u16) -> bool
-    ensures { result ≡ bytes_ok kind_text (bytes_from s.now at len) }
+#[tactic(auto, using(crate::proofs::Runs::value_runs), unfolding(crate::specs::Layout::bytes_ok))]
+fn text_ok(s: &[u8], value: Found) -> bool
+    ensures { result ≡ bytes_ok kind_text (value_bytes s.now value) }
 {
-    len <= size::TEXT_MOST && is_utf8(s, at, len)
+    value.len <= size::TEXT_MOST && is_utf8(s, value.at, value.len)
 }
 
-#[tactic(auto, using(crate::proofs::Runs::value_bytes), unfolding(crate::specs::Layout::bytes_ok))]
-fn numbers_ok(s: &[u8], at: u32, len: u16) -> bool
-    ensures { result ≡ bytes_ok kind_numbers (bytes_from s.now at len) }
+#[tactic(auto, using(crate::proofs::Runs::value_runs), unfolding(crate::specs::Layout::bytes_ok))]
+fn numbers_ok(s: &[u8], value: Found) -> bool
+    ensures { result ≡ bytes_ok kind_numbers (value_bytes s.now value) }
 {
-    len % size::NUMBER == 0 && len / size::NUMBER <= size::NUMBERS_MOST
+    value.len % size::NUMBER == 0 && value.len / size::NUMBER <= size::NUMBERS_MOST
 }
 
-#[tactic(auto, using(crate::proofs::Runs::value_bytes), unfolding(crate::specs::Layout::bytes_ok))]
-fn length_ok(s: &[u8], at: u32, len: u16) -> bool
-    ensures { result ≡ bytes_ok kind_length (bytes_from s.now at len) }
+#[tactic(auto, using(crate::proofs::Runs::value_runs), unfolding(crate::specs::Layout::bytes_ok))]
+fn length_ok(s: &[u8], value: Found) -> bool
+    ensures { result ≡ bytes_ok kind_length (value_bytes s.now value) }
 {
-    len == size::LENGTH && byte(s, at as usize) <= unit::PERCENT
+    value.len == size::LENGTH && byte(s, value.at as usize) <= unit::PERCENT
 }
 
 #[tactic(auto, unfolding(crate::specs::Layout::try_ok))]
@@ -113,12 +116,12 @@ fn not_after_failed(s: &[u8], at: usize) -> bool
     second <= byte(s, at) && byte(s, at + tries::THIRD) <= second
 }
 
-#[tactic(auto, using(crate::proofs::Runs::value_bytes), unfolding(crate::specs::Layout::bytes_ok))]
-fn tries_ok(s: &[u8], at: u32, len: u16) -> bool
-    ensures { result ≡ bytes_ok kind_tries (bytes_from s.now at len) }
+#[tactic(auto, using(crate::proofs::Runs::value_runs), unfolding(crate::specs::Layout::bytes_ok))]
+fn tries_ok(s: &[u8], value: Found) -> bool
+    ensures { result ≡ bytes_ok kind_tries (value_bytes s.now value) }
 {
-    let from = at as usize;
-    len == size::TRIES
+    let from = value.at as usize;
+    value.len == size::TRIES
         && try_ok(s, from)
         && try_ok(s, from + tries::SECOND)
         && try_ok(s, from + tries::THIRD)
@@ -126,106 +129,98 @@ fn tries_ok(s: &[u8], at: u32, len: u16) -> bool
 }
 
 // Whether a value of a kind may have these bytes.
-#[tactic(auto, using(crate::proofs::Runs::value_bytes), unfolding(crate::specs::Layout::bytes_ok))]
-fn bytes_ok(s: &[u8], kind: u8, at: u32, len: u16) -> bool
-    ensures { result ≡ bytes_ok kind (bytes_from s.now at len) }
+#[tactic(auto, using(crate::proofs::Runs::value_runs), unfolding(crate::specs::Layout::bytes_ok))]
+fn bytes_ok(s: &[u8], value: Found) -> bool
+    ensures { result ≡ bytes_ok value.kind (value_bytes s.now value) }
 {
-    match ValueKind::try_from(kind) {
-        Ok(ValueKind::Unreadable) => len == 0,
-        Ok(ValueKind::Text) => text_ok(s, at, len),
-        Ok(ValueKind::Number) => len == size::NUMBER,
-        Ok(ValueKind::Numbers) => numbers_ok(s, at, len),
-        Ok(ValueKind::Length) => length_ok(s, at, len),
-        Ok(ValueKind::Color) => len == size::COLOR,
-        Ok(ValueKind::Tries) => tries_ok(s, at, len),
-        Ok(ValueKind::Typed) => len <= size::TYPED_MOST,
+    // A match: the kinds are a closed set, and each arm tests another thing.
+    match ValueKind::try_from(value.kind) {
+        Ok(ValueKind::Unreadable) => value.len == 0,
+        Ok(ValueKind::Text) => text_ok(s, value),
+        Ok(ValueKind::Number) => value.len == size::NUMBER,
+        Ok(ValueKind::Numbers) => numbers_ok(s, value),
+        Ok(ValueKind::Length) => length_ok(s, value),
+        Ok(ValueKind::Color) => value.len == size::COLOR,
+        Ok(ValueKind::Tries) => tries_ok(s, value),
+        Ok(ValueKind::Typed) => value.len <= size::TYPED_MOST,
         Err(_) => false,
     }
 }
 
-// The one text that lighting-color may be.
+// The one text that lighting-color may be. `run_is` takes a length of one byte, and a value's has two: it is compared first.
 #[tactic(auto, using(bits::proofs::Sameness::same_run_length), unfolding(crate::specs::Layout::word_ok))]
-fn word_ok(s: &[u8], id: u16, kind: u8, at: u32, len: u16) -> bool
-    ensures { result ≡ word_ok id kind (bytes_from s.now at len) }
+fn word_ok(s: &[u8], id: u16, value: Found) -> bool
+    ensures { result ≡ word_ok id value.kind (value_bytes s.now value) }
 {
     id != aid::LIGHTING_COLOR
-        || kind != ValueKind::Text as u8
-        || (len == 12 && run_is(s, at as usize, 12, b"currentColor"))
+        || !value.is(ValueKind::Text)
+        || (value.len == 12 && run_is(s, value.at as usize, 12, b"currentColor"))
 }
 
-#[tactic(auto, unfolding(crate::specs::Layout::entry_ok, crate::specs::Records::entry_at))]
-fn entry_ok(s: &[u8], depth: u8, at: usize, head: Head) -> bool
-    requires { (at < 2 ^ 31) × HeadAt s.now at head }
-    ensures { result ≡ entry_ok depth (entry_at s.now at) }
+#[tactic(auto, unfolding(crate::specs::Layout::entry_ok))]
+fn entry_ok(s: &[u8], depth: u8, attribute: Attribute) -> bool
+    ensures { result ≡ entry_ok depth (entry_of s.now attribute) }
 {
-    let from = value_place(at) as u32;
-    byte(s, at + attribute::ZERO) == 0
-        && kind_allowed(depth, head.id, head.kind)
-        && bytes_ok(s, head.kind, from, head.len)
-        && word_ok(s, head.id, head.kind, from, head.len)
+    attribute.zero == 0
+        && kind_allowed(depth, attribute.id, attribute.value.kind)
+        && bytes_ok(s, attribute.value)
+        && word_ok(s, attribute.id, attribute.value)
 }
 
-// The n attributes of the node at `start`, whose record has `size` bytes; `low` is the least id that the next may have.
-#[tactic(auto, using(crate::proofs::Entries::looping))]
-fn entries_ok(s: &[u8], depth: u8, start: usize, n: u8, size: usize) -> bool
-    requires start_bound { start < 65536 }
-    requires size_bound { size < 2 ^ 33 }
-    ensures { result ≡ entries_ok depth size (map (entry_at s.now) (places_from s.now (attributes_place start) n)) }
+// The attributes of a node whose record has `size` bytes; `low` is the least id that the next may have. One walk for the order, the entries and the end: `is_sorted_by` and
+// `all` would each read every attribute again.
+#[tactic(auto, using(crate::proofs::Entries::looping), unfolding(svgtree::specs::Parse::node_from))]
+fn entries_ok(node: SvgNode<'_>, size: u32) -> bool
+    ensures { result ≡ entries_ok (node_of node.entry).depth size (map (entry_at node.entry.bytes.now) (places_of node.entry.bytes.now node.entry.at)) }
 {
-    let mut at = start + node::ATTRIBUTES;
+    let depth = node.depth();
+    let start = usize::from(node.at);
+    let mut end = start + node::ATTRIBUTES;
     let mut low = 0;
-    for _ in 0..n {
-        let head = head_at(s, at);
-        if usize::from(head.id) < low {
+    for attribute in node.attributes() {
+        if usize::from(attribute.id) < low {
             return false;
         }
-        if !entry_ok(s, depth, at, head) {
+        if !entry_ok(node.bytes, depth, attribute) {
             return false;
         }
-        low = usize::from(head.id) + 1;
-        at = next_place(at, head.len);
+        low = usize::from(attribute.id) + 1;
+        end = attribute.value.end();
     }
-    at == start + size
+    end == start + size as usize
 }
 
 // Nodes.
 
-fn count_ok(tag: u8, count: u8) -> bool
-    ensures { result ≡ (not (eqb tag 0) || eqb count 0) }
+fn count_ok(node: SvgNode<'_>, count: u8) -> bool
+    ensures { result ≡ (not (eqb (node_of node.entry).tag 0) || eqb count 0) }
 {
-    tag != 0 || count == 0
+    node.has_tag() || count == 0
 }
 
-#[tactic(auto, unfolding(crate::specs::Layout::node_head_ok))]
-fn head_ok(s: &[u8], at: usize) -> bool
-    requires { at < 65536 }
-    ensures { result ≡ node_head_ok (node_depth s.now at) (node_tag_at s.now at) (attribute_count s.now at) (node_zero_at s.now at) }
+#[tactic(auto, unfolding(crate::specs::Layout::node_head_ok, svgtree::specs::Parse::node_from))]
+fn head_ok(node: SvgNode<'_>) -> bool
+    ensures { result ≡ node_head_ok (node_depth node.entry.bytes.now node.entry.at) (node_tag_at node.entry.bytes.now node.entry.at) (attribute_count node.entry.bytes.now node.entry.at) (node_zero_at node.entry.bytes.now node.entry.at) }
 {
-    let tag = byte(s, at + node::TAG);
-    byte(s, at) <= 1
-        && tag_ok(tag)
-        && count_ok(tag, byte(s, at + node::ATTRIBUTE_COUNT))
-        && byte(s, at + node::ZERO) == 0
+    let at = usize::from(node.at);
+    node.depth() <= 1
+        && tag_ok(node.tag_name())
+        && count_ok(node, byte(node.bytes, at + node::ATTRIBUTE_COUNT))
+        && byte(node.bytes, at + node::ZERO) == 0
 }
 
-#[tactic(auto, unfolding(crate::specs::Layout::node_record_ok, crate::specs::Records::node_record_at))]
+#[tactic(auto, unfolding(crate::specs::Layout::node_record_ok, crate::specs::Records::node_record_at, svgtree::specs::Parse::node_from))]
 fn record_ok(s: &[u8], i: u16) -> bool
     ensures { result ≡ node_record_ok (node_record_at s.now i) }
 {
-    let at = usize::from(SvgNode::get(s, i).at);
-    head_ok(s, at)
-        && entries_ok(
-            s,
-            byte(s, at),
-            at,
-            byte(s, at + node::ATTRIBUTE_COUNT),
-            pair_length(s, i) as usize,
-        )
+    let node = SvgNode::get(s, i);
+    head_ok(node) && entries_ok(node, pair_length(s, i))
 }
 
 fn records_ok(s: &[u8]) -> bool
     ensures { result ≡ all node_record_ok (node_records_from s.now 0 (count_of s.now)) }
 {
+    // By number: a record's length stands in its pair, and not in the node.
     (0..node_count(s)).all(|i| record_ok(s, i))
 }
 
@@ -236,24 +231,27 @@ fn depth_ok(depth: u8, tagged: bool) -> bool
     depth == 0 || tagged
 }
 
-fn tagged_after(depth: u8, tag: u8, tagged: bool) -> bool
-    ensures { result ≡ cond (eqb depth 0) (not (eqb tag 0)) tagged }
+fn tagged_after(node: SvgNode<'_>, tagged: bool) -> bool
+    ensures { result ≡ cond (eqb (node_of node.entry).depth 0) (not (eqb (node_of node.entry).tag 0)) tagged }
 {
-    if depth == 0 { tag != 0 } else { tagged }
+    if node.depth() == 0 {
+        node.has_tag()
+    } else {
+        tagged
+    }
 }
 
+// A `for`, as in `records_touch`: what is kept from node to node is one bool.
 #[tactic(auto, using(crate::proofs::Following::deepening), unfolding(svgtree::specs::Parse::node_from))]
 fn depths_ok(s: &[u8]) -> bool
     ensures { result ≡ depths_ok false (node_records_from s.now 0 (count_of s.now)) }
 {
     let mut tagged = false;
-    for i in 0..node_count(s) {
-        let node = SvgNode::get(s, i);
-        let depth = node.depth();
-        if !depth_ok(depth, tagged) {
+    for node in NodeRun::of_sheet(s).nodes() {
+        if !depth_ok(node.depth(), tagged) {
             return false;
         }
-        tagged = tagged_after(depth, node.tag_name(), tagged);
+        tagged = tagged_after(node, tagged);
     }
     true
 }

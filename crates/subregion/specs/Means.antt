@@ -1,19 +1,19 @@
 -- What the code's four numbers of a child stand for. Definitions only.
-use Rattle.std.specs.Prelude.{Option}
+use Rattle.std.specs.Prelude.{Option, Float}
 use Rattle.geom.specs.declared.Rect.{Rect}
 use Rattle.geom.specs.Geometry.{width_of, height_of}
 use Rattle.names.specs.Ids.{aid_x, aid_y, aid_width, aid_height}
 use Rattle.svgtree.specs.Values.{Node}
 use Rattle.region.specs.declared.Frame.{Frame}
-use Rattle.subregion.specs.declared.Given.{Given}
+use Rattle.svgtree.specs.declared.sides.Sides.{Sides}
 use Rattle.subregion.specs.Subregions.{given_number, rect_within, corner_in_box, side_in_box}
 
 -- as they stand in the sheet, in primitiveUnits
-abbrev pub given_in : Frame → Node → Given
+abbrev pub given_in : Frame → Node → Sides (Option Float)
 given_in frame n = record { x = given_number frame n aid_x; y = given_number frame n aid_y; width = given_number frame n aid_width; height = given_number frame n aid_height }
 
 -- in user space, where they are fractions of a box
-abbrev pub given_in_box : Given → (box : Rect) → Given
+abbrev pub given_in_box : Sides (Option Float) → (box : Rect) → Sides (Option Float)
 given_in_box g box =
     record {
       x = corner_in_box g.x (width_of box) box.left;
@@ -23,5 +23,5 @@ given_in_box g box =
     }
 
 -- their rectangle
-abbrev pub rect_of_given : (region : Rect) → Given → Option Rect
+abbrev pub rect_of_given : (region : Rect) → Sides (Option Float) → Option Rect
 rect_of_given region g = rect_within region g.x g.y g.width g.height

@@ -10,30 +10,25 @@ ghost use Rattle.subregion.specs.Means.{given_in, given_in_box, rect_of_given};
 use geom::{Rect, Size};
 use names::aid;
 use region::Frame;
-use svgtree::sides::sides_of;
+use svgtree::sides::{Sides, sides_of};
 use svgtree::{SvgNode, Units};
-use units::try_convert_length;
+use units::LengthContext;
 
-// A child's x, y, width and height as numbers, where they are given.
-#[derive(Clone, Copy)]
-struct Given {
-    x: Option<f32>,
-    y: Option<f32>,
-    width: Option<f32>,
-    height: Option<f32>,
-}
-
-// In primitiveUnits.
-fn given_of(node: SvgNode<'_>, frame: Frame) -> Given
+// A child's x, y, width and height as numbers in primitiveUnits, where they are given.
+fn given_of(node: SvgNode<'_>, frame: Frame) -> Sides<Option<f32>>
     ensures { result ≡ given_in frame (node_of node.entry) }
 {
-    let font = node.font_size();
+    let lengths = LengthContext {
+        units: frame.units,
+        state: frame.state,
+        font_size: node.font_size(),
+    };
     let sides = sides_of(node);
-    Given {
-        x: try_convert_length(sides.x, aid::X, frame.units, frame.state, font),
-        y: try_convert_length(sides.y, aid::Y, frame.units, frame.state, font),
-        width: try_convert_length(sides.width, aid::WIDTH, frame.units, frame.state, font),
-        height: try_convert_length(sides.height, aid::HEIGHT, frame.units, frame.state, font),
+    Sides {
+        x: lengths.try_convert_length(sides.x, aid::X),
+        y: lengths.try_convert_length(sides.y, aid::Y),
+        width: lengths.try_convert_length(sides.width, aid::WIDTH),
+        height: lengths.try_convert_length(sides.height, aid::HEIGHT),
     }
 }
 
@@ -51,11 +46,11 @@ fn side_in_box(fraction: Option<f32>, side: f32) -> Option<f32>
 }
 
 // Fractions of the box as numbers of user space.
-fn in_box(given: Given, bbox: Rect) -> Given
+fn in_box(given: Sides<Option<f32>>, bbox: Rect) -> Sides<Option<f32>>
     ensures { result ≡ given_in_box given bbox }
 {
     let size = bbox.size();
-    Given {
+    Sides {
         x: corner_in_box(given.x, size.width, bbox.left),
         y: corner_in_box(given.y, size.height, bbox.top),
         width: side_in_box(given.width, size.width),
@@ -65,7 +60,7 @@ fn in_box(given: Given, bbox: Rect) -> Given
 
 // What is absent is the filter region's own.
 #[tactic(auto, unfolding(crate::specs::Subregions::rect_within))]
-fn rect_within(region: Rect, given: Given) -> Option<Rect>
+fn rect_within(region: Rect, given: Sides<Option<f32>>) -> Option<Rect>
     ensures { result ≡ rect_of_given region given }
 {
     Rect::from_xywh(

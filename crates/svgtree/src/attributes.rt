@@ -1,81 +1,106 @@
-// The walk over a node's attributes: what stands before a value, where the value and the next attribute begin, and the search for an id.
-ghost use Rattle.std.specs.Prelude.{◌≡◌, map, ◌+◌, ◌^◌, ◌<◌};
-ghost use Rattle.svgtree.specs.Readers.{value_under};
-ghost use Rattle.svgtree.specs.Parse.{value_place, attribute_at, places_from, node_from};
-ghost use Rattle.svgtree.specs.Means.{found_is, HeadAt};
+// A node's attributes, one after the other as they stand in the sheet.
+#![tactic(auto, using(crate::proofs::Listed::listed))]
 
-use crate::{Found, Head};
+ghost use Rattle.std.specs.Prelude.{◌≡◌, ◌+◌, ◌^◌, ◌<◌};
+ghost use Rattle.std.specs.Iterator.{YieldsFirst, item_count};
+ghost use Rattle.svgtree.specs.Parse.{attribute_count, attributes_place};
+ghost use Rattle.svgtree.specs.Listed.{read_at, read_from};
+
+use crate::Found;
 use bits::{byte, get16};
 use sheet_fields::{attribute, node};
+use std::marker::Model;
 
-// One test serves for all six bytes where they lie in the sheet.
+// An attribute as it stands: its id, the zero byte of its head, and its value.
+#[derive(Clone, Copy)]
+pub struct Attribute {
+    pub id: u16,
+    pub zero: u8,
+    pub value: Found,
+}
+
+// One test serves for all six bytes of the head where they lie in the sheet. An array pattern over `bytes_at::<6>` proves as well, but a search then takes half as
+// many instructions again: there are two tests, and the two bytes of a number are read apart.
 #[tactic(auto, unfolding(bits::specs::Bytes::le16))]
-pub fn head_at(s: &[u8], at: usize) -> Head
-    requires { at < 2 ^ 40 }
-    ensures { HeadAt s.now at result }
+#[inline(always)]
+fn attribute_at(s: &[u8], at: u32) -> Attribute
+    requires { at < 2 ^ 31 }
+    ensures { result ≡ read_at s.now at }
 {
-    if at + attribute::VALUE <= s.len() {
-        return Head {
-            id: u16::from(s[at]) + u16::from(s[at + 1]) * 256,
-            kind: s[at + attribute::KIND],
-            len: u16::from(s[at + attribute::LENGTH])
-                + u16::from(s[at + attribute::LENGTH + 1]) * 256,
+    let value = at + attribute::VALUE as u32;
+    let at = at as usize;
+    if value as usize <= s.len() {
+        return Attribute {
+            id: u16::from_le_bytes([s[at], s[at + 1]]),
+            zero: s[at + attribute::ZERO],
+            value: Found {
+                at: value,
+                len: u16::from_le_bytes([s[at + attribute::LENGTH], s[at + attribute::LENGTH + 1]]),
+                kind: s[at + attribute::KIND],
+            },
         };
     }
-    Head {
+    Attribute {
         id: get16(s, at),
-        kind: byte(s, at + attribute::KIND),
-        len: get16(s, at + attribute::LENGTH),
+        zero: byte(s, at + attribute::ZERO),
+        value: Found {
+            at: value,
+            len: get16(s, at + attribute::LENGTH),
+            kind: byte(s, at + attribute::KIND),
+        },
     }
 }
 
-// Where the value of the attribute at a place begins.
-pub fn value_place(at: usize) -> usize
-    requires { at < 2 ^ 40 }
-    ensures { result ≡ value_place at }
-{
-    at + attribute::VALUE
+// The attributes of a node that are left, in the sheet's order. A clause sees them as a list.
+#[derive(Drop)]
+pub struct Attributes<'a> {
+    bytes: &'a [u8],
+    at: u32,
+    left: u8,
 }
 
-// Where the next attribute begins, behind a value of so many bytes.
-pub fn next_place(at: usize, len: u16) -> usize
-    requires { at < 2 ^ 40 }
-    ensures { result ≡ value_place at + len }
-{
-    value_place(at) + usize::from(len)
+impl<'a> Model for Attributes<'a> {
+    ghost use Rattle.std.specs.Prelude.{◌+◌, ◌*◌, ◌^◌, ◌<◌, List};
+    ghost use Rattle.svgtree.specs.declared.attributes.Attribute.{Attribute};
+    ghost use Rattle.svgtree.specs.Listed.{read_from};
+
+    ghost Value = { List Attribute };
+
+    ghost view = { λ a. read_from a.bytes.now a.at a.left };
+
+    // Each attribute has a head of 6 bytes and at most 65,535 behind it.
+    ghost invariant = { λ a. a.at + a.left * 65541 < 2 ^ 31 };
 }
 
-// The attribute with an id among n that stand from a place on.
-#[tactic(auto, using(crate::proofs::Lookup::lookups))]
-fn find_from(s: &[u8], start: usize, n: u8, id: u16) -> Option<Found>
-    requires { start < 2 ^ 24 }
-    ensures { found_is s.now result ≡ value_under id (map (attribute_at s.now) (places_from s.now start n)) }
-{
-    let mut at = start;
-    for _ in 0..n {
-        let head = head_at(s, at);
-        if head.id == id {
-            return Some(Found {
-                at: value_place(at) as u32,
-                len: head.len,
-                kind: head.kind,
-            });
+impl<'a> Attributes<'a> {
+    // Of the node at an offset.
+    pub(crate) fn new(bytes: &'a [u8], at: u16) -> Attributes<'a>
+        ensures { result ≡ read_from bytes.now (attributes_place at) (attribute_count bytes.now at) }
+    {
+        let at = usize::from(at);
+        Attributes {
+            bytes,
+            at: (at + node::ATTRIBUTES) as u32,
+            left: byte(bytes, at + node::ATTRIBUTE_COUNT),
         }
-        at = next_place(at, head.len);
     }
-    None
 }
 
-#[tactic(auto, using(crate::proofs::Lookup::attributes_of))]
-#[inline(always)]
-pub(crate) fn find(s: &[u8], at: u16, id: u16) -> Option<Found>
-    ensures { found_is s.now result ≡ value_under id (node_from s.now at).attributes }
-{
-    let at = usize::from(at);
-    find_from(
-        s,
-        at + node::ATTRIBUTES,
-        byte(s, at + node::ATTRIBUTE_COUNT),
-        id,
-    )
+impl<'a> Iterator for Attributes<'a> {
+    type Item = Attribute;
+
+    ghost next_gives = { YieldsFirst (λ rest. rest) };
+
+    ghost remaining = { item_count (λ rest. rest) };
+
+    #[inline(always)]
+    fn next(&mut self) -> Option<Attribute> {
+        if self.left == 0 {
+            return None;
+        }
+        let attribute = attribute_at(self.bytes, self.at);
+        self.left -= 1;
+        self.at = attribute.value.at + u32::from(attribute.value.len);
+        Some(attribute)
+    }
 }

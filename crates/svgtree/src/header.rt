@@ -50,7 +50,8 @@ pub fn bbox(s: &[u8]) -> Option<Rect>
     None
 }
 
-// A name for each field: a function for all would take the field's place, and could not promise what stands there.
+// A name for each field, as in the source: one function for all would take the field's place as a number, and its callers would have to know that
+// `header_of` has the field of the same name there.
 
 pub fn view_box_width(s: &[u8]) -> f32
     ensures { result ≡ view_box_width_of (header_of s.now) }
@@ -76,6 +77,7 @@ pub fn filter_font_size(s: &[u8]) -> f32
     single(get32(s, header::FONT_SIZE))
 }
 
+// The place is one of four, each named where it is passed: no enum of them, since that would be four names for these four constants.
 #[tactic(auto, unfolding(crate::specs::Parse::header_length, crate::specs::Readers::length_in))]
 fn header_length(s: &[u8], at: usize) -> Option<Length>
     requires { at < 256 }

@@ -1,102 +1,62 @@
 // The attributes x, y, width and height of a node. Every child's subregion asks all four, so they are found in one walk over the attributes.
-ghost use Rattle.std.specs.Prelude.{◌≡◌, cond, map, ◌^◌, ◌<◌, eqb, Some};
-ghost use Rattle.std.specs.Option.{option_or};
+ghost use Rattle.std.specs.Prelude.{◌≡◌};
 ghost use Rattle.svgtree.specs.Readers.{length_in};
-ghost use Rattle.svgtree.specs.Parse.{attribute_at, places_from};
+ghost use Rattle.svgtree.specs.Means.{found_is};
 ghost use Rattle.svgtree.specs.Nodes.{node_of};
-ghost use Rattle.svgtree.specs.Sides.{value_from, PlacesOf, SidesOf};
+ghost use Rattle.svgtree.specs.Sides.{FoundSides, SidesOf};
 
-use crate::attributes::{head_at, next_place, value_place};
-use crate::values::length_from;
-use crate::{Length, SvgNode};
-use bits::byte;
+use crate::values::FromValue;
+use crate::{Found, Length, SvgNode};
 use names::aid;
-use sheet_fields::kind::ValueKind;
-use sheet_fields::{attribute, node};
 
+// What stands for each of the four: where it is, a length, a number.
 #[derive(Clone, Copy)]
-pub struct Sides {
-    pub x: Option<Length>,
-    pub y: Option<Length>,
-    pub width: Option<Length>,
-    pub height: Option<Length>,
+pub struct Sides<T> {
+    pub x: T,
+    pub y: T,
+    pub width: T,
+    pub height: T,
 }
 
-// Where each of the four begins.
-#[derive(Clone, Copy)]
-struct Places {
-    x: Option<u32>,
-    y: Option<u32>,
-    width: Option<u32>,
-    height: Option<u32>,
-}
-
-// The place of an attribute with this id, if it is the first with the id that is looked for.
-fn first(found: Option<u32>, wanted: u16, id: u16, at: u32) -> Option<u32>
-    ensures { result ≡ cond (eqb id wanted) (option_or found (Some at)) found }
-{
-    if id == wanted {
-        found.or(Some(at))
-    } else {
-        found
-    }
-}
-
-// The places among n attributes that stand from a place on.
+// Of several attributes with one id the first counts, as it does in a search.
 #[tactic(auto, using(crate::proofs::FirstWith::firsts))]
-fn places_from(s: &[u8], start: usize, n: u8) -> Places
-    requires { start < 2 ^ 24 }
-    ensures { PlacesOf s.now (map (attribute_at s.now) (places_from s.now start n)) result }
+fn find_sides(node: SvgNode<'_>) -> Sides<Option<Found>>
+    ensures { FoundSides node.entry.bytes.now (node_of node.entry).attributes result }
 {
-    let mut at = start;
-    let mut x = None;
-    let mut y = None;
-    let mut width = None;
-    let mut height = None;
-    for _ in 0..n {
-        let head = head_at(s, at);
-        let place = at as u32;
-        x = first(x, aid::X, head.id, place);
-        y = first(y, aid::Y, head.id, place);
-        width = first(width, aid::WIDTH, head.id, place);
-        height = first(height, aid::HEIGHT, head.id, place);
-        at = next_place(at, head.len);
+    let mut sides = Sides {
+        x: None,
+        y: None,
+        width: None,
+        height: None,
+    };
+    for attribute in node.attributes() {
+        let value = Some(attribute.value);
+        match attribute.id {
+            aid::X => sides.x = sides.x.or(value),
+            aid::Y => sides.y = sides.y.or(value),
+            aid::WIDTH => sides.width = sides.width.or(value),
+            aid::HEIGHT => sides.height = sides.height.or(value),
+            _ => {}
+        }
     }
-    Places {
-        x,
-        y,
-        width,
-        height,
-    }
+    sides
 }
 
-// The length that begins at a place, if one does.
-#[tactic(auto, using(crate::proofs::ByKind::by_kind), unfolding(crate::specs::Parse::attribute_at))]
-fn length_at(s: &[u8], at: Option<u32>) -> Option<Length>
-    ensures { result ≡ length_in (value_from s.now at) }
+#[tactic(auto, using(crate::proofs::ByKind::by_kind))]
+fn length_of(bytes: &[u8], found: Option<Found>) -> Option<Length>
+    ensures { result ≡ length_in (found_is bytes.now found) }
 {
-    let at = at? as usize;
-    if byte(s, at + attribute::KIND) != ValueKind::Length as u8 {
-        return None;
-    }
-    Some(length_from(s, value_place(at)))
+    Length::parse(bytes, found?)
 }
 
-#[tactic(auto, using(crate::proofs::Lookup::attributes_of))]
-pub fn sides_of(node: SvgNode<'_>) -> Sides
+pub fn sides_of(node: SvgNode<'_>) -> Sides<Option<Length>>
     ensures { SidesOf (node_of node.entry) result }
 {
-    let s = node.bytes;
-    let at = usize::from(node.at);
-    let places = places_from(
-        s,
-        at + node::ATTRIBUTES,
-        byte(s, at + node::ATTRIBUTE_COUNT),
-    );
+    let found = find_sides(node);
     Sides {
-        x: length_at(s, places.x),
-        y: length_at(s, places.y),
-        width: length_at(s, places.width),
-        height: length_at(s, places.height),
+        x: length_of(node.bytes, found.x),
+        y: length_of(node.bytes, found.y),
+        width: length_of(node.bytes, found.width),
+        height: length_of(node.bytes, found.height),
     }
 }

@@ -1,8 +1,8 @@
-// An attribute's value, read as one of a kind.
+// An attribute's value, read as one of a kind. A value is read at its place, and not from a slice of it: its length may reach past the sheet's end, where there are
+// zeros, and no caller has to rule that out.
 #![tactic(auto, using(crate::proofs::ByKind::by_kind))]
 
-ghost use Rattle.std.specs.Prelude.{◌≡◌, List, ℕ, ◌^◌, ◌<◌, min, None, Option, Some};
-ghost use Rattle.sheet_fields.specs.Fields.{size_text_most};
+ghost use Rattle.std.specs.Prelude.{◌≡◌, List, ℕ, ◌^◌, ◌<◌, None, Option, Some};
 ghost use Rattle.svgtree.specs.Readers.{length_in};
 ghost use Rattle.svgtree.specs.Values.{Value, absent};
 ghost use Rattle.svgtree.specs.Parse.{unit_of, length_at, color_at, try_at, tried_at, value_at};
@@ -10,7 +10,7 @@ ghost use Rattle.svgtree.specs.Means.{try_is, maybe_tries_is};
 ghost use Rattle.svgtree.specs.Attributes.{TextSays, NumberSays, NumbersSays, LengthSays, ColorSays, TriesSays, text_none, number_none, numbers_none, length_none, color_none, tries_none};
 
 use crate::{Color, Found, Length, LengthUnit, Tries};
-use bits::{Text, byte, get32, get64};
+use bits::{Text, byte, bytes_at, get32, get64};
 use num::{double_narrowed, single};
 use number_list::{Numbers, packed, typed};
 use sheet_fields::kind::ValueKind;
@@ -28,29 +28,15 @@ pub trait FromValue: Copy + Drop {
     ghost none_said: { (s : List ℕ) → says s None absent };
 }
 
-// A text's length, to 255 bytes.
-fn cut(n: u16) -> u8
-    ensures { result ≡ min n size_text_most }
-{
-    if n < size::TEXT_MOST {
-        n as u8
-    } else {
-        size::TEXT_MOST as u8
-    }
-}
-
 impl FromValue for Text {
     ghost says = { TextSays };
 
     ghost none_said = { λ s. text_none s };
 
     fn parse(bytes: &[u8], found: Found) -> Option<Self> {
-        if found.kind != ValueKind::Text as u8 {
-            return None;
-        }
-        Some(Text {
+        found.is(ValueKind::Text).then(|| Text {
             at: found.at,
-            len: cut(found.len),
+            len: found.len.min(size::TEXT_MOST) as u8,
         })
     }
 }
@@ -61,10 +47,9 @@ impl FromValue for f32 {
     ghost none_said = { λ s. number_none s };
 
     fn parse(bytes: &[u8], found: Found) -> Option<Self> {
-        if found.kind != ValueKind::Number as u8 {
-            return None;
-        }
-        Some(single(get32(bytes, found.at as usize)))
+        found
+            .is(ValueKind::Number)
+            .then(|| single(get32(bytes, found.at as usize)))
     }
 }
 
@@ -102,6 +87,8 @@ impl From<u8> for LengthUnit {
     }
 }
 
+// A place in these clauses is a u32's, or that and a few constants: the clause is there only so that adding one more does not overflow. A type of places would need its
+// bound again at each addition.
 #[tactic(auto, unfolding(crate::specs::Parse::length_at, crate::specs::Readers::length_in, num::specs::Means::double_of))]
 pub fn length_from(s: &[u8], at: usize) -> Length
     requires { at < 2 ^ 33 }
@@ -119,22 +106,23 @@ impl FromValue for Length {
     ghost none_said = { λ s. length_none s };
 
     fn parse(bytes: &[u8], found: Found) -> Option<Self> {
-        if found.kind != ValueKind::Length as u8 {
-            return None;
-        }
-        Some(length_from(bytes, found.at as usize))
+        found
+            .is(ValueKind::Length)
+            .then(|| length_from(bytes, found.at as usize))
     }
 }
 
+#[tactic(auto, unfolding(bits::specs::Bytes::bytes_from))]
 pub fn color_from(s: &[u8], at: usize) -> Color
     requires { at < 2 ^ 33 }
     ensures { result ≡ color_at s.now at }
 {
+    let [red, green, blue, alpha] = bytes_at::<4>(s, at);
     Color {
-        red: byte(s, at),
-        green: byte(s, at + 1),
-        blue: byte(s, at + 2),
-        alpha: byte(s, at + 3),
+        red,
+        green,
+        blue,
+        alpha,
     }
 }
 
@@ -144,10 +132,9 @@ impl FromValue for Color {
     ghost none_said = { λ s. color_none s };
 
     fn parse(bytes: &[u8], found: Found) -> Option<Self> {
-        if found.kind != ValueKind::Color as u8 {
-            return None;
-        }
-        Some(color_from(bytes, found.at as usize))
+        found
+            .is(ValueKind::Color)
+            .then(|| color_from(bytes, found.at as usize))
     }
 }
 
@@ -162,18 +149,15 @@ fn try_at(s: &[u8], at: usize) -> Option<u64>
     None
 }
 
-fn tries_from(s: &[u8], at: usize) -> Option<Tries>
+fn tries_from(s: &[u8], at: usize) -> Tries
     requires { at < 2 ^ 32 }
-    ensures { maybe_tries_is result ≡ Some (tried_at s.now at) }
+    ensures { maybe_tries_is (Some result) ≡ Some (tried_at s.now at) }
 {
-    let first = try_at(s, at);
-    let second = try_at(s, at + tries::SECOND);
-    let third = try_at(s, at + tries::THIRD);
-    Some(Tries {
-        first,
-        second,
-        third,
-    })
+    Tries {
+        first: try_at(s, at),
+        second: try_at(s, at + tries::SECOND),
+        third: try_at(s, at + tries::THIRD),
+    }
 }
 
 impl FromValue for Tries {
@@ -182,9 +166,8 @@ impl FromValue for Tries {
     ghost none_said = { λ s. tries_none s };
 
     fn parse(bytes: &[u8], found: Found) -> Option<Self> {
-        if found.kind != ValueKind::Tries as u8 {
-            return None;
-        }
-        tries_from(bytes, found.at as usize)
+        found
+            .is(ValueKind::Tries)
+            .then(|| tries_from(bytes, found.at as usize))
     }
 }

@@ -1,17 +1,25 @@
 -- How many bytes each value is. Assumes nothing.
 use Rattle.std.specs.Prelude.{Float, None, Option, Some}
-use Prim.Native.Nat.{◌+◌, ◌*◌}
+use Prim.Native.Nat.{ℕ, suc, ◌+◌, ◌*◌}
 use native.Mathlib.Omega.{arith}
-use mathlib.Core.Path.{◌≡◌, refl}
+use mathlib.Core.Path.{◌≡◌, refl, ap}
 use mathlib.Core.List.{List, [], ◌∷◌, map}
 use lib.ListN.{length, length-append, length-map}
 use Rattle.bits.specs.Bytes.{bytes16, bytes32}
+use Rattle.bits.specs.Texts.{text_is}
+use Rattle.bits.specs.declared.Text.{Text}
+use Rattle.bits.proofs.Runs.{length-bytes_from}
+use Rattle.tree.specs.Input.{Name, text_bytes}
+use Rattle.tree.specs.declared.Color.{Color}
+use Rattle.tree.specs.declared.DistantLight.{DistantLight}
+use Rattle.tree.specs.declared.PointLight.{PointLight}
+use Rattle.tree.specs.declared.SpotLight.{SpotLight}
 use Rattle.geom.specs.declared.Rect.{Rect}
 use Rattle.tree.specs.Scalars.{i32_bytes, color_bytes, rect_bytes, option_bytes}
 use Rattle.tree.specs.Kinds as kind
-use Rattle.tree.specs.Kinds.{Kind, ColorMatrixKind, Matrix, Saturate, HueRotate, LuminanceToAlpha, TransferFunction, Identity, Table, Discrete, Linear, Gamma, ComponentTransferFields, ConvolveMatrixFields, Primitive}
+use Rattle.tree.specs.Kinds.{Kind, ColorMatrixKind, Matrix, Saturate, HueRotate, LuminanceToAlpha, TransferFunction, Identity, Table, Discrete, Linear, Gamma, ComponentTransferFields, ConvolveMatrixData, ConvolveMatrixFields, Primitive}
 use Rattle.tree.specs.Fields.{field_bytes, color_matrix_kind_bytes, transfer_function_bytes, component_transfer_bytes, composite_operator_bytes, convolve_matrix_data_bytes, convolve_matrix_bytes, distant_light_bytes, triple_bytes, point_light_bytes, spot_light_bytes, light_source_bytes, diffuse_lighting_bytes, displacement_map_bytes, drop_shadow_bytes, flood_bytes, gaussian_blur_bytes, morphology_bytes, offset_bytes, specular_lighting_bytes, turbulence_bytes}
-use Rattle.tree.specs.Sizes.{field_size, color_matrix_kind_size, transfer_function_size, component_transfer_size, composite_operator_size, convolve_matrix_size, light_source_size, diffuse_lighting_size, specular_lighting_size, option_size, total}
+use Rattle.tree.specs.Sizes.{field_size, color_matrix_kind_size, transfer_function_size, component_transfer_size, composite_operator_size, convolve_matrix_data_size, convolve_matrix_size, spot_light_size, light_source_size, diffuse_lighting_size, specular_lighting_size, option_size, total}
 use Rattle.tree.specs.List.{primitive_size, records_bytes, list_bytes}
 use Rattle.tree.specs.declared.CompositeOperator.{CompositeOperator}
 use Rattle.tree.specs.declared.CompositeOperator.TheVariants.{Over, In, Out, Atop, Xor, Lighter, Arithmetic}
@@ -29,11 +37,23 @@ use Rattle.tree.specs.declared.Turbulence.{Turbulence}
 use Rattle.tree.proofs.Runs.{length_numbers}
 use Rattle.tree.proofs.Pairs.{length_pairs}
 
+pub length_text : (t : Name) → length (text_bytes t) ≡ 2 + length t
+unfolding text_bytes bytes16
+length_text t = simp length-append
+
+-- a text that the code has as a place in the lent bytes
+pub length_own : (s : List ℕ) (t : Text) → length (text_bytes (text_is s t)) ≡ 2 + t.len
+length_own s t = simp (length_text, length-bytes_from)
+
+pub length_color : (v : Color) → length (color_bytes v) ≡ 3
+unfolding color_bytes
+length_color v = refl
+
 pub length_rect : (r : Rect) → length (rect_bytes r) ≡ 16
 unfolding rect_bytes bytes32
 length_rect r = refl
 
-length_option : (v : Option Float) → length (option_bytes v) ≡ option_size v
+pub length_option : (v : Option Float) → length (option_bytes v) ≡ option_size v
 unfolding option_bytes bytes32
 length_option None = refl
 length_option (Some x) = refl
@@ -71,15 +91,31 @@ length-composite_operator Xor = refl
 length-composite_operator Lighter = refl
 length-composite_operator (Arithmetic k1 k2 k3 k4) = refl
 
+pub length_convolve_matrix_data : (v : ConvolveMatrixData) → length (convolve_matrix_data_bytes v) ≡ convolve_matrix_data_size v
+unfolding convolve_matrix_data_bytes bytes32
+length_convolve_matrix_data v = omega (arith, length_numbers v.numbers)
+
 pub length_convolve_matrix : (v : ConvolveMatrixFields) → length (convolve_matrix_bytes v) ≡ convolve_matrix_size v
-unfolding convolve_matrix_bytes convolve_matrix_data_bytes bytes32
-length_convolve_matrix v = simp (length-append, length_numbers) (omega arith)
+unfolding convolve_matrix_bytes bytes32
+length_convolve_matrix v = simp (length-append, length_convolve_matrix_data) (omega arith)
+
+pub length_distant_light : (l : DistantLight) → length (distant_light_bytes l) ≡ 8
+unfolding distant_light_bytes bytes32
+length_distant_light l = refl
+
+pub length_point_light : (l : PointLight) → length (point_light_bytes l) ≡ 12
+unfolding point_light_bytes triple_bytes bytes32
+length_point_light l = refl
+
+pub length_spot_light : (l : SpotLight) → length (spot_light_bytes l) ≡ spot_light_size l
+unfolding spot_light_bytes triple_bytes bytes32
+length_spot_light l = omega (arith, length_option l.limiting_cone_angle)
 
 pub length-light_source : (v : LightSource) → length (light_source_bytes v) ≡ light_source_size v
-unfolding light_source_bytes distant_light_bytes point_light_bytes spot_light_bytes triple_bytes bytes32
-length-light_source (light.DistantLight l) = refl
-length-light_source (light.PointLight l) = refl
-length-light_source (light.SpotLight l) = omega (arith, length_option l.limiting_cone_angle)
+unfolding light_source_bytes
+length-light_source (light.DistantLight l) = ap suc (length_distant_light l)
+length-light_source (light.PointLight l) = ap suc (length_point_light l)
+length-light_source (light.SpotLight l) = omega (arith, length_spot_light l)
 
 pub length_diffuse_lighting : (v : DiffuseLighting) → length (diffuse_lighting_bytes v) ≡ diffuse_lighting_size v
 unfolding diffuse_lighting_bytes color_bytes bytes32

@@ -11,12 +11,13 @@ use Rattle.bits.specs.Bytes.{bytes16, bytes32, bytes_f}
 use Rattle.tree.specs.Scalars.{run_bytes, numbers_bytes}
 use Rattle.tree.specs.Sizes.{numbers_size}
 
-run_snoc : (xs : List Float) (x : Float) → run_bytes (xs ++ (x ∷ [])) ≡ run_bytes xs ++ bytes_f x
+-- one number more at the end
+pub run_snoc : (xs : List Float) (x : Float) → run_bytes (xs ++ (x ∷ [])) ≡ run_bytes xs ++ bytes_f x
 unfolding run_bytes
 run_snoc [] x = append-nil (bytes_f x)
 run_snoc (y ∷ ys) x = rw (run_snoc ys x) (sym (append_assoc (bytes_f y) (run_bytes ys) (bytes_f x)))
 
--- one number more
+-- the same by how many stand before it
 pub run_more : (xs : List Float) (j : ℕ) (d : Float) → j < length xs → run_bytes (take (j + 1) xs) ≡ run_bytes (take j xs) ++ bytes_f (get_or xs j d)
 run_more xs j d h = ap run_bytes (ap (λ (k : ℕ). take k xs) (add-one j) ∙ take-suc xs j d h) ∙ run_snoc (take j xs) (get_or xs j d)
 

@@ -1,5 +1,5 @@
 -- "an enum as its place in the declaration": the enums whose cases hold nothing, and the kinds. Definitions only.
-use Rattle.std.specs.Prelude.{ℕ}
+use Rattle.std.specs.Prelude.{ℕ, ◌≡◌, ◌<◌, ◌⊎◌, Result, MatchResult}
 use Rattle.tree.specs.declared.ColorInterpolation.{ColorInterpolation}
 use Rattle.tree.specs.declared.ColorInterpolation.TheVariants.{SRGB, LinearRGB}
 use Rattle.tree.specs.declared.BlendMode.{BlendMode}
@@ -12,6 +12,9 @@ use Rattle.tree.specs.declared.MorphologyOperator.{MorphologyOperator}
 use Rattle.tree.specs.declared.MorphologyOperator.TheVariants.{Erode, Dilate}
 use Rattle.tree.specs.declared.TurbulenceKind.{TurbulenceKind}
 use Rattle.tree.specs.declared.TurbulenceKind.TheVariants.{FractalNoise, Turbulence}
+use Rattle.tree.specs.declared.KindName.{KindName}
+use Rattle.tree.specs.declared.KindName.TheVariants as name
+use Rattle.tree.specs.declared.UnknownKind.{UnknownKind}
 use Rattle.tree.specs.Kinds as kind
 use Rattle.tree.specs.Kinds.{Kind}
 
@@ -75,3 +78,26 @@ kind_place (kind.Offset a v) = 13
 kind_place (kind.SpecularLighting a v) = 14
 kind_place (kind.Tile a) = 15
 kind_place (kind.Turbulence v) = 16
+
+-- the same by the name alone
+abbrev pub kind_name_place : KindName → ℕ
+kind_name_place name.Blend = 0
+kind_name_place name.ColorMatrix = 1
+kind_name_place name.ComponentTransfer = 2
+kind_name_place name.Composite = 3
+kind_name_place name.ConvolveMatrix = 4
+kind_name_place name.DiffuseLighting = 5
+kind_name_place name.DisplacementMap = 6
+kind_name_place name.DropShadow = 7
+kind_name_place name.Flood = 8
+kind_name_place name.GaussianBlur = 9
+kind_name_place name.Merge = 11
+kind_name_place name.Morphology = 12
+kind_name_place name.Offset = 13
+kind_name_place name.SpecularLighting = 14
+kind_name_place name.Tile = 15
+kind_name_place name.Turbulence = 16
+
+-- the name at a place, or an error with a byte that is Image's place or behind them all
+abbrev pub NamedAt : ℕ → Result KindName UnknownKind → Type 0
+NamedAt place r = MatchResult r (λ name. kind_name_place name ≡ place) (λ e. (e.0 ≡ place) × ((place ≡ 10) ⊎ (16 < place)))

@@ -1,10 +1,11 @@
 // The filter primitive's types.
-// Where the source has a Vec or a String, a value holds a place in the lent bytes. A kind's inputs are not held here: in
+// Where the source has a Vec or a String, a value holds a place in the lent bytes, since there is no heap, and no slice, since it may reach past their end, where zeros
+// are read. A kind's inputs are not held here: in
 // each struct of the source they come first, so a kind is its place, its inputs, and the fields that these types hold.
 #![tactic(auto)]
 
 ghost use Rattle.std.specs.Prelude.{◌≡◌};
-ghost use Rattle.tree.specs.Places.{color_interpolation_place, blend_mode_place, edge_mode_place, color_channel_place, morphology_operator_place, turbulence_kind_place};
+ghost use Rattle.tree.specs.Places.{color_interpolation_place, blend_mode_place, edge_mode_place, color_channel_place, morphology_operator_place, turbulence_kind_place, kind_name_place, NamedAt};
 
 use number_list::Numbers;
 
@@ -237,7 +238,70 @@ pub struct Turbulence {
     pub kind: TurbulenceKind,
 }
 
+// `Kind` without its fields: the name of each kind that a list can hold, at its place in the declaration. Image, which would stand at 10, is left out: no
+// sheet makes one.
+#[derive(Clone, Copy)]
+pub enum KindName {
+    Blend,
+    ColorMatrix,
+    ComponentTransfer,
+    Composite,
+    ConvolveMatrix,
+    DiffuseLighting,
+    DisplacementMap,
+    DropShadow,
+    Flood,
+    GaussianBlur,
+    Merge = 11,
+    Morphology,
+    Offset,
+    SpecularLighting,
+    Tile,
+    Turbulence,
+}
+
+// A byte that is the place of no such kind. A type of its own beside `sheet_fields`' `UnknownKind`: that is a byte of a sheet, this one a place in a list.
+#[derive(Clone, Copy)]
+pub struct UnknownKind(pub u8);
+
+impl TryFrom<u8> for KindName {
+    type Error = UnknownKind;
+
+    ghost try_from_gives = { NamedAt };
+
+    fn try_from(place: u8) -> Result<KindName, UnknownKind> {
+        match place {
+            0 => Ok(KindName::Blend),
+            1 => Ok(KindName::ColorMatrix),
+            2 => Ok(KindName::ComponentTransfer),
+            3 => Ok(KindName::Composite),
+            4 => Ok(KindName::ConvolveMatrix),
+            5 => Ok(KindName::DiffuseLighting),
+            6 => Ok(KindName::DisplacementMap),
+            7 => Ok(KindName::DropShadow),
+            8 => Ok(KindName::Flood),
+            9 => Ok(KindName::GaussianBlur),
+            11 => Ok(KindName::Merge),
+            12 => Ok(KindName::Morphology),
+            13 => Ok(KindName::Offset),
+            14 => Ok(KindName::SpecularLighting),
+            15 => Ok(KindName::Tile),
+            16 => Ok(KindName::Turbulence),
+            10 | 17..=255 => Err(UnknownKind(place)), // 10 is Image
+        }
+    }
+}
+
 // An enum whose variants hold nothing, as its variant's place in the declaration.
+
+impl From<KindName> for u8 {
+    ghost from_gives = { λ name place. place ≡ kind_name_place name };
+
+    #[inline]
+    fn from(name: KindName) -> u8 {
+        name as u8
+    }
+}
 
 impl From<BlendMode> for u8 {
     ghost from_gives = { λ mode place. place ≡ blend_mode_place mode };

@@ -1,5 +1,6 @@
 -- A converted length of finite numbers is no NaN, and f32 holds it; and what the readers of a sheet give is finite. Assumes nothing.
 use Rattle.std.specs.Prelude.{Float, None, Option, Some}
+use Rattle.std.proofs.lemmas.Option.{none-some}
 use Prim.Native.Nat.{ℕ}
 use mathlib.Core.Path.{◌≡◌, refl, subst}
 use mathlib.Core.Bool.{Bool, true, false, cond, ◌||◌}
@@ -91,7 +92,7 @@ abbrev pub Readable : Option Length → Type 0
 Readable m = (l : Length) → m ≡ Some l → ReadLength l
 
 none_read : Readable None
-none_read l e = let z : ◌≡◌ {A = ℕ} 0 1 = cc in absurd (zero_one z)
+none_read l e = absurd (none-some l e)
 
 pub readable : (v : Value) → Readable (length_in v)
 unfolding length_in
@@ -114,7 +115,7 @@ AllSingle m = (x : Float) → m ≡ Some x → Single x
 
 converted_single : (m : Option Length) (aid : ℕ) (u : Units) (state : State) (size : Float) → Readable m → FiniteState state → T (finite size) → AllSingle (converted m aid u state size)
 converted_single (Some l) aid u state size r f s = λ x e. let i : convert_length l aid u state size ≡ x = cc in subst Single i (length_single l aid u state size (r l refl) f s)
-converted_single None aid u state size r f s = λ x e. let z : ◌≡◌ {A = ℕ} 0 1 = cc in absurd (zero_one z)
+converted_single None aid u state size r f s = λ x e. absurd (none-some x e)
 
 pub try_single : (n : Node) (aid : ℕ) (u : Units) (state : State) → FiniteState state → AllSingle (try_convert_length n aid u state)
 try_single n aid u state f = converted_single (length_in (value_under aid n.attributes)) aid u state (font_size_of n) (readable (value_under aid n.attributes)) f (or_zero_finite n.font_size)

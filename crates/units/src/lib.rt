@@ -15,6 +15,14 @@ pub struct State {
     pub dpi: f32,
 }
 
+// What the lengths of an element are converted with: the units that they are in, and the font size of the element.
+#[derive(Clone, Copy)]
+pub struct LengthContext {
+    pub units: Units,
+    pub state: State,
+    pub font_size: f32,
+}
+
 // A length to a number.
 
 // What a percentage under an attribute is of.
@@ -36,56 +44,45 @@ fn convert_percent(n: f32, units: Units, base: f32) -> f32
     }
 }
 
-// Every length goes through this function.
-#[tactic(auto, unfolding(crate::specs::Lengths::convert_length))]
-pub fn convert_length(length: Length, aid: u16, units: Units, state: State, font_size: f32) -> f32
-    ensures { result ≡ convert_length length aid units state font_size }
-{
-    let Length { number: n, unit } = length;
-    match unit {
-        LengthUnit::None | LengthUnit::Px => n,
-        LengthUnit::Em => n * font_size,
-        LengthUnit::Ex => n * font_size / 2.0,
-        LengthUnit::In => n * state.dpi,
-        LengthUnit::Cm => n * state.dpi / 2.54,
-        LengthUnit::Mm => n * state.dpi / 25.4,
-        LengthUnit::Pt => n * state.dpi / 72.0,
-        LengthUnit::Pc => n * state.dpi / 6.0,
-        LengthUnit::Percent => convert_percent(n, units, percent_base(aid, state.view_box)),
+impl LengthContext {
+    // Every length goes through this function.
+    #[tactic(auto, unfolding(crate::specs::Lengths::convert_length))]
+    pub fn convert_length(self, length: Length, aid: u16) -> f32
+        ensures { result ≡ convert_length length aid self.units self.state self.font_size }
+    {
+        let Length { number: n, unit } = length;
+        let State { view_box, dpi } = self.state;
+        match unit {
+            LengthUnit::None | LengthUnit::Px => n,
+            LengthUnit::Em => n * self.font_size,
+            LengthUnit::Ex => n * self.font_size / 2.0,
+            LengthUnit::In => n * dpi,
+            LengthUnit::Cm => n * dpi / 2.54,
+            LengthUnit::Mm => n * dpi / 25.4,
+            LengthUnit::Pt => n * dpi / 72.0,
+            LengthUnit::Pc => n * dpi / 6.0,
+            LengthUnit::Percent => convert_percent(n, self.units, percent_base(aid, view_box)),
+        }
+    }
+
+    // A length of a node, where it is given.
+    pub fn try_convert_length(self, found: Option<Length>, aid: u16) -> Option<f32>
+        ensures { result ≡ converted found aid self.units self.state self.font_size }
+    {
+        found.map(|length| self.convert_length(length, aid))
+    }
+
+    // An attribute of the filter element, with its default.
+    pub fn resolve_number(self, given: Option<Length>, aid: u16, def: Length) -> f32
+        ensures { result ≡ resolve_number given aid self.units self.state self.font_size def }
+    {
+        self.convert_length(given.unwrap_or(def), aid)
     }
 }
 
-// A length of a node, where it is given.
-pub fn try_convert_length(
-    found: Option<Length>,
-    aid: u16,
-    units: Units,
-    state: State,
-    font_size: f32,
-) -> Option<f32>
-    ensures { result ≡ converted found aid units state font_size }
-{
-    found.map(|length| convert_length(length, aid, units, state, font_size))
-}
-
-// The filter element's attributes.
-
+// The units that an attribute of the filter element names, or its default.
 pub fn convert_units(given: Option<Units>, def: Units) -> Units
     ensures { result ≡ convert_units given def }
 {
     given.unwrap_or(def)
-}
-
-// An attribute of the filter element, with its default, and the font size of the element that has it.
-pub fn resolve_number(
-    given: Option<Length>,
-    aid: u16,
-    units: Units,
-    state: State,
-    font_size: f32,
-    def: Length,
-) -> f32
-    ensures { result ≡ resolve_number given aid units state font_size def }
-{
-    convert_length(given.unwrap_or(def), aid, units, state, font_size)
 }

@@ -3,7 +3,7 @@
 // `is_sign_negative`, and for octaves a second implementation in Rust; every NaN is printed as 7fc00000.
 #![tactic(auto)]
 
-use number_list::packed;
+use number_list::{Numbers, packed};
 use std::num::{f32_from_bits_with_nan as of_bits, f32_to_bits_with_nan};
 use std::{fmt, io};
 
@@ -280,21 +280,21 @@ fn bounds(rt: &impl Print) -> io::Result<()> {
 // 1, an infinity, -2 and two bytes of a fourth.
 const LIST: [u8; 14] = [0, 0, 128, 63, 0, 0, 128, 127, 0, 0, 0, 192, 0, 64];
 
-// The list's length and the number at each place.
-fn list_lines(rt: &impl Print, at: u32, count: u16) -> io::Result<()> {
-    let numbers = packed(at, count);
-    let length = number_list::numbers_len(&LIST, numbers);
-    for i in 0..6 {
-        let number = f32_to_bits_with_nan(number_list::number_at(&LIST, numbers, i));
+// The list's length and the number at each place, zero past its end.
+fn list_lines(rt: &impl Print, list: Numbers) -> io::Result<()> {
+    let length = number_list::numbers_len(&LIST, list);
+    let mut left = list.iter(&LIST);
+    for _ in 0..6 {
+        let number = f32_to_bits_with_nan(left.next().unwrap_or(0.0));
         println!(rt; "number_at {length} {number:08x}")?;
     }
     Ok(())
 }
 
 fn lists(rt: &impl Print) -> io::Result<()> {
-    list_lines(rt, 0, 5)?;
-    list_lines(rt, 8, 1)?;
-    list_lines(rt, u32::MAX, 2)
+    list_lines(rt, packed(0, 5))?;
+    list_lines(rt, packed(8, 1))?;
+    list_lines(rt, packed(u32::MAX, 2))
 }
 
 fn main(rt: HostRuntime) -> io::Result<()> {

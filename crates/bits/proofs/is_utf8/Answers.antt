@@ -14,7 +14,7 @@ returns-in-None c =
     let s = c.args.s.now in
     let l = c.loop-j in
     let step = run_step s (Some (ranges_due l.now)) (c.args.from + l.j) (c.args.n - l.j) (omega arith) in
-    let broken = rw (c.in-None.is, c.byte.ensures) at c.next_byte.ensures in
+    let broken = rw (c.in-None.is, c.byte.ensures, c.from.ensures) at c.next_byte.ensures in
     rw (l.invariant, step, ← broken, run_broken)
 
 pub loop-j-preserved : goal.loop-j-preserved
@@ -22,7 +22,7 @@ loop-j-preserved c =
     let a = c.args in
     let l = c.loop-j in
     let step = run_step a.s.now (Some (ranges_due l.now)) (a.from + l.j) (a.n - l.j) (omega arith) in
-    let next = rw (c.in-Some.is, c.byte.ensures) at c.next_byte.ensures in
+    let next = rw (c.in-Some.is, c.byte.ensures, c.from.ensures) at c.next_byte.ensures in
     let place : a.from + l.j + 1 ≡ a.from + (l.j + 1) = omega arith in
     let left : a.n - l.j - 1 ≡ a.n - (l.j + 1) = omega arith in
     l.invariant ∙ rw (step, ← next, place, left)

@@ -3,4 +3,4 @@ use Rattle.chain.specs.Means.{chain_from}
 use Rattle.chain.proofs.next_child.Given as goal
 
 abbrev pub invariant-loop-i : goal.invariant-loop-i
-invariant-loop-i l = chain_from l.frame l.s l.start ≡ chain_from l.frame l.s l.i
+invariant-loop-i l = chain_from l.frame l.sheet.bytes.now l.start ≡ chain_from l.frame l.sheet.bytes.now l.i

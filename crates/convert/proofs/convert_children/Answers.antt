@@ -1,6 +1,7 @@
 -- A frame that can place nothing makes no primitive; else the answer is that of the chain which the tables stand for. Assumes nothing.
 use mathlib.Core.Path.{refl, sym, ◌∙◌}
 use lib.ListN.{length}
+use Rattle.std.proofs.lemmas.Result.{err_from_is_err_and}
 use Rattle.answer.proofs.Laws.{answers_as, refused_by}
 use Rattle.answer.specs.declared.Refusal.TheVariants.{NoPrimitive}
 use Rattle.svgtree.specs.Parse.{sheet_of}
@@ -12,18 +13,18 @@ pub returns-then-not-is_placeable : goal.returns-then-not-is_placeable
 returns-then-not-is_placeable c =
     let a = c.args in
     let no = sym c.is_placeable.ensures ∙ c.if-not-is_placeable.true in
-    refused_by list_of a.out.now _ _ NoPrimitive (none_placed a.frame (sheet_of a.s.now).nodes (length a.out.now) no) (refl, refl)
+    refused_by list_of a.out.now _ _ NoPrimitive (none_placed a.frame (sheet_of a.sheet.bytes.now).nodes (length a.out.now) no) (refl, refl)
 
-pub returns-in-Err : goal.returns-in-Err
-returns-in-Err c =
+pub returns-in_err-collect_children : goal.returns-in_err-collect_children
+returns-in_err-collect_children c =
     let a = c.args in
     let yes = sym c.is_placeable.ensures ∙ c.if-not-is_placeable.false in
-    let stopped = rw c.in-Err.is at c.collect_children.ensures in
-    refused_by list_of a.out.now _ _ _ (by_chain a.frame (sheet_of a.s.now).nodes (length a.out.now) _ yes stopped.exact) (refl, refl)
+    let refusal = err_from_is_err_and c.from_residual.result c.from_residual.ensures.1 in
+    rw (refusal.1, refusal.2)
+    (refused_by list_of a.out.now _ _ _ (by_chain a.frame (sheet_of a.sheet.bytes.now).nodes (length a.out.now) _ yes c.in_err-collect_children.ensures.exact) (refl, refl))
 
-pub returns-in-Ok : goal.returns-in-Ok
-returns-in-Ok c =
+pub returns : goal.returns
+returns c =
     let a = c.args in
     let yes = sym c.is_placeable.ensures ∙ c.if-not-is_placeable.false in
-    let collected = rw c.in-Ok.is at c.collect_children.ensures in
-    answers_as list_of a.out.now _ _ (by_chain a.frame (sheet_of a.s.now).nodes (length a.out.now) _ yes collected.exact) c.finish.ensures
+    answers_as list_of a.out.now _ _ (by_chain a.frame (sheet_of a.sheet.bytes.now).nodes (length a.out.now) _ yes c.in_ok-collect_children.ensures.exact) c.finish.ensures

@@ -8,5 +8,6 @@ use Rattle.decimal.proofs.decimals.Goals as goal
 pub returns : goal.returns
 returns c =
     λ ds e.
-    let d = c.digit_run-f.ensures in
-    c.scale.ensures _ (decimals_value _ _ _ c.args.minus ds _ _ _ d e) ∙ ap held_in (decimals_some _ _ _ _ ds _ _ _ d (omega arith))
+    let d = c.digit_run-run.ensures.digits in
+    let h = rw c.behind.ensures.0 at c.scale.ensures in
+    h _ (decimals_value c.args.minus ds _ _ _ _ d e) ∙ ap held_in (decimals_some c.args.minus ds _ _ _ _ d (omega arith))

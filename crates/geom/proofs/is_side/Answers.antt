@@ -5,4 +5,4 @@ use Rattle.geom.proofs.is_side.Goals as goal
 
 pub returns-then-a-b : goal.returns-then-a-b
 unfolding of_bits
-returns-then-a-b c = side_below c.args.a c.args.b c.if-a-b.true
+returns-then-a-b c = rw (c.from.ensures, c.from-then-a-b.ensures) (side_below c.args.a c.args.b c.if-a-b.true)

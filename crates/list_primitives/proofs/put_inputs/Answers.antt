@@ -7,8 +7,8 @@ use Rattle.list_primitives.proofs.Merges.{inputs_long}
 use Rattle.list_primitives.proofs.Parts.{inputs_bytes_at, writes_like}
 use Rattle.list_primitives.proofs.put_inputs.Goals as goal
 
-pub returns-in-Run : goal.returns-in-Run
+pub returns-in-Merge : goal.returns-in-Merge
 unfolding bytes16
-returns-in-Run c =
+returns-in-Merge c =
     let n = c.args.names.now in
-    writes_like (ap (inputs_bytes_at n.bytes.now n.entries.now) c.in-Run.is ∙ rw inputs_long) (c.put.ensures then c.put_run.ensures) (rw c.in-Run.is (omega arith))
+    writes_like (ap (inputs_bytes_at n.bytes.now n.entries.now) c.in-Merge.is ∙ rw inputs_long) (c.put.ensures then c.put_merge.ensures) (rw c.in-Merge.is (omega arith))

@@ -17,8 +17,8 @@ loop-j-init c =
     let n = a.names.now in
     rw (records_none a.frame n.bytes.now a.nodes.now n.entries.now) (writes_none _)
 
-pub put_primitive-requires-clause-room : goal.put_primitive-requires-clause-room
-put_primitive-requires-clause-room c =
+pub put_primitive-requires : goal.put_primitive-requires
+put_primitive-requires c =
     let a = c.args in
     let f = a.frame in
     let s = a.names.now.bytes.now in
@@ -27,7 +27,7 @@ put_primitive-requires-clause-room c =
     let l = c.loop-j in
     let under : l.j < length names = omega (arith, c.requires.each.0) in
     let named = c.name.ensures.exact s ∙ ap (λ (e : ℕ). entry_is s e) (get_or_default names l.j c.index-names-j.result 0 under) in
-    let e = same_record f s nodes names c.child_of-child.result c.name.result (get_or nodes l.j 0) l.j c.child_of-child.ensures.0 named in
+    let e = same_record f s nodes names c.child_of-child.result c.name.result (get_or nodes l.j 0) l.j c.child_of-child.ensures named in
     let h = room (records_up_to f s nodes names) (record_next f s nodes names) (records_step f s nodes names) l.j (length nodes) c.loop-j-test.true in
     rw e (omega (arith, h, l.invariant.next, l.invariant.long, c.requires.room))
 
@@ -41,5 +41,5 @@ loop-j-preserved c =
     let l = c.loop-j in
     let under : l.j < length names = omega (arith, c.requires.each.0) in
     let named = c.name.ensures.exact s ∙ ap (λ (e : ℕ). entry_is s e) (get_or_default names l.j c.index-names-j.result 0 under) in
-    let e = same_record f s nodes names c.child_of-child.result c.name.result (get_or nodes l.j 0) l.j c.child_of-child.ensures.0 named in
+    let e = same_record f s nodes names c.child_of-child.result c.name.result (get_or nodes l.j 0) l.j c.child_of-child.ensures named in
     one_more (records_up_to f s nodes names) (record_next f s nodes names) (records_step f s nodes names) l.j l.invariant (rw e at c.put_primitive.ensures)

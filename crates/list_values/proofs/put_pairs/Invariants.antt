@@ -6,7 +6,7 @@ use Rattle.tree.specs.List.{pairs_bytes}
 use Rattle.tree.specs.Sizes.{total}
 use Rattle.list_values.proofs.put_pairs.Given as goal
 
-abbrev pub invariant-loop-k : goal.invariant-loop-k
-invariant-loop-k l =
-    let done = take l.k-index (take l.count l.sizes) in
-    record { next : l.start ≡ l.base + total done; written : Writes l.initial.out (8 * l.k-index) (pairs_bytes l.base done) l.out }
+abbrev pub invariant-loop-size : goal.invariant-loop-size
+invariant-loop-size l =
+    let done = take l.size-index l.sizes in
+    record { next : l.start ≡ l.base + total done; written : Writes l.initial.out (8 * l.size-index) (pairs_bytes l.base done) l.out }

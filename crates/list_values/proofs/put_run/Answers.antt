@@ -1,22 +1,34 @@
--- Invariant: the first j numbers are written, and the others are left from the place on. Each turn adds one number to the run and to what is written.
+-- Invariant: the numbers so far are written, and the others are left. Each turn adds one number to the run and to what is written.
 use native.Mathlib.Omega.{arith}
-use Prim.Native.Nat.{◌<◌}
-use mathlib.Core.Path.{refl, ◌∙◌}
-use lib.ListN.{length}
+use mathlib.Core.Path.{◌≡◌, sym, ap, ◌∙◌}
+use mathlib.Core.List.{List, [], ◌∷◌, ◌++◌, append_assoc, append-nil}
+use lib.ListN.{length, length-append}
+use lib.Ieee.{Float}
 use Rattle.bits.proofs.Writing.{◌then◌, ◌counted◌, writes_none}
-use Rattle.num.specs.Constants.{plus_zero}
-use Rattle.number_list.specs.Lists.{numbers_is}
-use Rattle.number_list.proofs.Lists.{walked_first, walked_rest}
-use Rattle.tree.proofs.Runs.{run_more, run_none}
+use Rattle.number_list.specs.Lists.{numbers_is, numbers_left}
+use Rattle.tree.proofs.Runs.{run_snoc, run_none}
 use Rattle.list_values.proofs.put_run.Goals as goal
 
-pub loop-j-init : goal.loop-j-init
-loop-j-init c = let a = c.args in (rw (run_none (numbers_is a.s.now a.v)) (writes_none _), refl)
+pub loop-x-init : goal.loop-x-init
+loop-x-init c = record { written = rw (run_none []) (writes_none _); left = sym (ap numbers_left c.into_iter-x-iterator.ensures.into_iter_gives ∙ c.iter-x-items.ensures) }
 
-pub loop-j-preserved : goal.loop-j-preserved
-loop-j-preserved c =
-    let l = c.loop-j in
-    let xs = numbers_is c.args.s.now c.args.v in
-    let h : l.j < length xs = omega arith in
-    let first = c.number_from.ensures ∙ walked_first xs _ l.j l.invariant.1 in
-    (rw (run_more xs l.j plus_zero h, ← first) (l.invariant.0 then c.put.ensures counted omega arith), walked_rest xs _ _ l.j l.invariant.1 (c.after_number-from.ensures l.j))
+pub put-requires : goal.put-requires
+put-requires c =
+    let l = c.loop-x in
+    let w = l.invariant.written in
+    omega (arith, w.next, w.long, ap length l.invariant.left, length-append l.yielded (numbers_left l.x-iterator), ap length c.in-Some.ensures.steps)
+
+pub loop-x-preserved : goal.loop-x-preserved
+loop-x-preserved c =
+    let l = c.loop-x in
+    let x = c.in-Some.x in
+    record {
+      written = rw (run_snoc l.yielded x) (l.invariant.written then c.put.ensures counted omega (arith, length-append l.yielded (x ∷ [])));
+      left = l.invariant.left ∙ ap (λ (xs : List Float). l.yielded ++ xs) c.in-Some.ensures.steps ∙ sym (append_assoc l.yielded (x ∷ []) (numbers_left c.next.new.self));
+    }
+
+pub returns : goal.returns
+returns c =
+    let l = c.loop-x in
+    let all : numbers_is c.args.s.now c.args.v ≡ l.yielded = l.invariant.left ∙ ap (λ (xs : List Float). l.yielded ++ xs) c.in-None.ensures.steps.0 ∙ append-nil l.yielded in
+    rw all l.invariant.written

@@ -19,11 +19,10 @@ pub returns-in-Some-Comma : goal.returns-in-Some-Comma
 returns-in-Some-Comma c =
     let x = c.in-Some-Comma in
     let (e, w) = c.next_token.ensures in
-    rw c.at_comma.ensures (goes_comma _ _ _ _ _ _ c.requires e w x.next (cc))
+    rw c.at_comma.ensures (goes_comma _ _ _ _ _ _ c.requires e w x.rest (cc))
 
 pub returns-in-Some-Word : goal.returns-in-Some-Word
 returns-in-Some-Word c =
     let x = c.in-Some-Word in
     let (e, w) = c.next_token.ensures in
-    let k = rw (c.from.ensures, c.from-in-Some-Word.ensures) at c.check_word-word.ensures in
-    rw (c.at_word.ensures, c.end.ensures) (goes_word _ _ _ _ _ _ c.requires e w x.span (cc) _ k)
+    rw c.at_word.ensures (goes_word _ _ _ _ _ _ c.requires e w x.word x.rest (cc) _ c.check_word.ensures)

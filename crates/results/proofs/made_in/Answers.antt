@@ -7,28 +7,25 @@ use Rattle.std.specs.Prelude.{Some, None}
 use Rattle.bits.specs.Bytes.{bytes_from, same}
 use Rattle.naming.specs.Names.{w_result}
 use Rattle.results.specs.Means.{NumberIn}
-use Rattle.results.proofs.Numbers.{key_short, key_long, key_unlike, key_none, key_fits}
+use Rattle.results.proofs.Numbers.{key_outside, key_within, key_unlike, key_none, key_fits}
 use Rattle.results.proofs.made_in.Goals as goal
 
-pub returns-then-t-lt7 : goal.returns-then-t-lt7
-returns-then-t-lt7 c =
+pub returns-then-not-contains : goal.returns-then-not-contains
+returns-then-not-contains c =
     let a = c.args in
-    key_short a.s.now a.t.at a.t.len c.if-t-lt7.true
-
-pub returns-then-t-gt16 : goal.returns-then-t-gt16
-returns-then-t-gt16 c =
-    let a = c.args in
-    key_long a.s.now a.t.at a.t.len c.if-t-gt16.true
+    key_outside a.s.now a.t.at a.t.len (sym (rw (c.new.ensures.start, c.new.ensures.end, c.new.ensures.exhausted) at c.contains.ensures.value) ∙ c.if-not-contains.true)
 
 pub returns-then-not-run_is : goal.returns-then-not-run_is
 returns-then-not-run_is c =
     let a = c.args in
+    let long = key_within a.s.now a.t.at a.t.len (sym (rw (c.new.ensures.start, c.new.ensures.end, c.new.ensures.exhausted) at c.contains.ensures.value) ∙ c.if-not-contains.false) in
     let unlike : same (bytes_from a.s.now a.t.at 6) w_result ≡ false = sym c.run_is.ensures ∙ c.if-not-run_is.true in
     key_unlike a.s.now a.t.at a.t.len (omega arith) unlike
 
 pub returns-in_err-number_in : goal.returns-in_err-number_in
 returns-in_err-number_in c =
     let a = c.args in
+    let long = key_within a.s.now a.t.at a.t.len (sym (rw (c.new.ensures.start, c.new.ensures.end, c.new.ensures.exhausted) at c.contains.ensures.value) ∙ c.if-not-contains.false) in
     let like : same (bytes_from a.s.now a.t.at 6) w_result ≡ true = sym c.run_is.ensures ∙ c.if-not-run_is.false in
     let number : NumberIn (bytes_from a.s.now (a.t.at + 6) (a.t.len - 6)) None = c.in_err-number_in.ensures in
     rw c.from_residual.ensures (key_none a.s.now a.t.at a.t.len (omega arith) like number)
@@ -37,6 +34,7 @@ pub returns : goal.returns
 returns c =
     let a = c.args in
     let n = c.in_ok-number_in.field-0 in
+    let long = key_within a.s.now a.t.at a.t.len (sym (rw (c.new.ensures.start, c.new.ensures.end, c.new.ensures.exhausted) at c.contains.ensures.value) ∙ c.if-not-contains.false) in
     let like : same (bytes_from a.s.now a.t.at 6) w_result ≡ true = sym c.run_is.ensures ∙ c.if-not-run_is.false in
     let number : NumberIn (bytes_from a.s.now (a.t.at + 6) (a.t.len - 6)) (Some n) = c.in_ok-number_in.ensures in
     rw c.ok.ensures.value (key_fits a.s.now a.t.at a.t.len (omega arith) like n number c.try_from.result c.try_from.ensures)

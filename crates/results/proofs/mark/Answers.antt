@@ -1,6 +1,6 @@
 -- A text's last byte and its length, by `mark_text`; the empty text has neither. Assumes nothing.
 use native.Mathlib.Omega.{arith}
-use mathlib.Core.Path.{sym}
+use mathlib.Core.Path.{sym, ◌∙◌}
 use Rattle.results.proofs.Entries.{mark_none, mark_text}
 use Rattle.results.proofs.mark.Goals as goal
 
@@ -10,5 +10,4 @@ returns-then-t-eq0 c = (sym (mark_none c.args.s.now c.args.t.at c.args.t.len c.i
 pub returns : goal.returns
 returns c =
     let t = c.args.t in
-    let e = sym (mark_text c.args.s.now t.at t.len c.byte.result (omega arith) (omega arith) (omega arith) c.byte.ensures) in
-    (omega (arith, e, c.from.ensures, c.from-2.ensures), omega (arith, c.from.ensures, c.from-2.ensures))
+    (c.mark_with.ensures.0 ∙ sym (mark_text c.args.s.now t.at t.len c.byte.result (omega arith) (omega arith) (omega arith) c.byte.ensures), c.mark_with.ensures.1)

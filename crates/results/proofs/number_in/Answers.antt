@@ -2,7 +2,7 @@
 use mathlib.Core.Path.{◌≡◌}
 use native.Mathlib.Omega.{arith}
 use lib.ListN.{get_or}
-use Rattle.results.proofs.Numbers.{first_digit, first_other, zero_alone, zero_before}
+use Rattle.results.proofs.Numbers.{first_digit, first_other, zero_read}
 use Rattle.results.proofs.number_in.Goals as goal
 
 pub returns-in_err-first : goal.returns-in_err-first
@@ -16,14 +16,8 @@ returns-then-first-gt0 c =
     let d = c.in_ok-first in
     rw (first_digit a.s.now a.from a.n d.first (omega arith) d.ensures.0 d.ensures.1) c.number_after.ensures
 
-pub returns-then-n-eq1 : goal.returns-then-n-eq1
-returns-then-n-eq1 c =
+pub returns : goal.returns
+returns c =
     let a = c.args in
     let e : get_or a.s.now a.from 0 ≡ 48 = omega (arith, c.in_ok-first.ensures) in
-    zero_alone a.s.now a.from a.n c.if-n-eq1.true e
-
-pub returns-else-n-eq1 : goal.returns-else-n-eq1
-returns-else-n-eq1 c =
-    let a = c.args in
-    let e : get_or a.s.now a.from 0 ≡ 48 = omega (arith, c.in_ok-first.ensures) in
-    zero_before a.s.now a.from a.n (omega arith) e
+    rw c.then_some.ensures (zero_read a.s.now a.from a.n (omega arith) e)

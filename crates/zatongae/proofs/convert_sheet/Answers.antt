@@ -19,11 +19,11 @@ returns-in_err-region c =
     let e : c.from_residual-in_err-region.result ≡ Err c.in_err-region.field-0.0 = search rules in
     rw e (region_refused a.sheet.now a.out.now _ _ (sym c.in_ok-check.ensures) (sym c.in_err-region.ensures) (refl, refl))
 
-pub convert_children-requires : goal.convert_children-requires
-convert_children-requires c = few_nodes c.args.sheet.now (sym c.in_ok-check.ensures)
+pub invariant_of-convert_children : goal.invariant_of-convert_children
+invariant_of-convert_children c = record { few = few_nodes c.args.sheet.now (sym c.in_ok-check.ensures) }
 
 pub returns : goal.returns
 returns c =
     let a = c.args in
     converted a.sheet.now a.out.now _ (λ i. (c.type_inv.sheet i).fits) _ (sym c.in_ok-check.ensures) (sym c.in_ok-region.ensures)
-    c.frame_of.result c.frame_of.ensures _ c.convert_children.ensures
+    c.frame_of-frame.result c.frame_of-frame.ensures _ c.convert_children.ensures

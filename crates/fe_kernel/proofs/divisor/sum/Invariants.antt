@@ -1,12 +1,9 @@
--- The sum of all numbers is that of the total and the numbers from i on, which are left from the place on. Assumes nothing.
+-- The sum of all numbers is that of the total and the numbers that are left. Assumes nothing.
 use mathlib.Core.Path.{◌≡◌}
-use lib.ListN.{drop}
-use Rattle.number_list.specs.Lists.{rest_is, numbers_is}
+use Rattle.number_list.specs.Lists.{numbers_is, numbers_left}
 use Rattle.num.specs.Constants.{plus_zero}
 use Rattle.fe_kernel.specs.Divisor.{sum_from}
 use Rattle.fe_kernel.proofs.divisor.sum.Given as goal
 
-abbrev pub invariant-loop-i : goal.invariant-loop-i
-invariant-loop-i l =
-    let xs = numbers_is l.s l.kernel in
-    record { summed : sum_from plus_zero xs ≡ sum_from l.total (drop l.i xs); left : rest_is l.s l.kernel l.i l.from ≡ drop l.i xs }
+abbrev pub invariant-loop-number : goal.invariant-loop-number
+invariant-loop-number l = sum_from plus_zero (numbers_is l.s l.fn.kernel) ≡ sum_from l.total (numbers_left l.number-iterator)

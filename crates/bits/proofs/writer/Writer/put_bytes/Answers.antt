@@ -1,7 +1,8 @@
--- What the call puts into the buffer is what the writer writes (`writes_put`). Assumes nothing.
+-- The bytes are a part of the buffer replaced. Assumes nothing.
 use mathlib.Core.Path.{refl}
+use Rattle.bits.proofs.Patches.{put_part}
 use Rattle.bits.proofs.Writing.{writes_put}
 use Rattle.bits.proofs.writer.Writer.put_bytes.Goals as goal
 
 pub returns : goal.returns
-returns c = writes_put _ _ _ _ refl c.put_bytes-self.ensures c.requires
+returns c = writes_put _ _ _ _ refl (put_part _ _ _ _ _ refl c.requires c.copy_from_slice.ensures.after) c.requires

@@ -1,7 +1,0 @@
--- The bytes of std are those of the spec. Assumes nothing.
-use Rattle.bits.specs.Bytes.{bytes16}
-use Rattle.bits.proofs.writer.U16ToBytes.put_at.Goals as goal
-
-pub returns : goal.returns
-unfolding bytes16
-returns c = rw c.to_le_bytes.ensures at c.put_bytes.ensures
