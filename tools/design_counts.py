@@ -85,6 +85,11 @@ for path in sources:
         for m in re.finditer(r'^ *for (\w+) in 0\.\.(\w+)[^\n]*', body, re.M):
             if re.search(r'\[' + m.group(1) + r'\]|byte\(\w+, ' + m.group(1) + r'\)', body):
                 place('3', path, line + 1 + body.count('\n', 0, m.start()), 'fn %s: an index into what could be walked' % name)
+        # 3: a `for` beside which a place is moved on by hand
+        for m in re.finditer(r'^( *)for \w+ in ([^\n]*) \{\n(.*?)^\1\}', body, re.M | re.S):
+            moved = re.search(r'^ *(\w+) (?:= (?:next|after)\w*\(|= \w+;|\+= )', m.group(3), re.M)
+            if moved and re.search(r'let mut ' + moved.group(1) + r'\b', body[:m.start()]) and re.search(r'\b' + moved.group(1) + r'\b', m.group(3).replace(moved.group(0), '', 1)):
+                place('3', path, line + 1 + body.count('\n', 0, m.start()), 'fn %s: %s is moved on by hand' % (name, moved.group(1)))
         # 4: conversion, equality, order by hand
         inner = body.strip().strip('{}').strip()
         arms = re.findall(r'=> ([^,\n]+),', inner)
@@ -147,6 +152,11 @@ for path in sorted(glob.glob(os.path.join(root, 'crates/*/proofs/**/Answers.antt
     text = open(path).read()
     for m in re.finditer(r'^\S+ c = search rules$', text, re.M):
         place('8', path, line_of(text, m.start()), 'search rules')
+    for m in re.finditer(r'^\S+(?: c)? = (.{12,})$', text, re.M):
+        answers[path.split('/crates/')[1].split('/')[0], m.group(1)].append((path, line_of(text, m.start())))
+for (crate, answer), found in answers.items():
+    if len(found) >= 3:
+        place('8', found[0][0], found[0][1], '%d answers of one crate: %s' % (len(found), answer[:60]))
 for point in '12345678':
     print('%s: %d' % (point, len(places[point])))
     if shown:
