@@ -62,7 +62,8 @@ impl ToBytes for f32 {
     }
 }
 
-// A buffer that is written from a place on.
+// A buffer that is written from a place on. Not std's `Write` for `&mut [u8]`: its clauses say how many bytes were written and not which (its contents are None), and each call would
+// give a Result that can't be an error where there is room.
 #[derive(Drop)]
 pub struct Writer<'a> {
     pub out: &'a mut [u8],

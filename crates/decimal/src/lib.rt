@@ -16,7 +16,8 @@ use window::Window;
 
 pub mod window;
 
-// The least number of 16 digits: digits and exponents are held there.
+// The least number of 16 digits: digits and exponents are held there. The bound stands in five clauses and in no type: the definitions (`whole`, `held_in`, `DigitsOf`) speak of plain
+// numbers, so with a struct that has it in a ghost field each of those clauses would name the struct's field where it now names the number, and `Decimal` would take the struct apart.
 const LIMIT: u64 = 1000000000000000;
 
 // ± digits * 10 ^ power, held. The sign is apart from the digits, since zero has one too.

@@ -205,7 +205,8 @@ fn make_turbulence(node: SvgNode<'_>) -> Made
 }
 
 // What a node of the sheet gives, by its tag. A match and no table of functions: they take the node, its children and the scale as each needs them. A node's children
-// stand beside it: an `SvgNode` is an offset and does not know its number, from which its children are counted.
+// stand beside it, as a run whose fields the clauses name: `Makes` says where the run ends, which a child bounds by 512. From a number in `SvgNode` they would be `children_of bytes number`,
+// their end a count of its own in each clause, and every node would hold a number for the four elements that read children.
 #[tactic(auto, unfolding(crate::specs::Elements::by_tag, crate::specs::Elements::kind_of))]
 pub fn kind_of(node: SvgNode<'_>, children: NodeRun<'_>, frame: Frame) -> Made
     requires { node.bytes ≡ children.bytes }

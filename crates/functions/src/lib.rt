@@ -18,7 +18,7 @@ ghost use Rattle.functions.specs.Refusals.{size_by, shadow_ok, arguments_ok, fun
 ghost use Rattle.functions.specs.Call.{ConvertedFunction};
 ghost use Rattle.functions.specs.Names.{code_by, Decodes};
 
-use answer::{Answer, Refusal};
+use answer::Refusal;
 use bits::writer::Writer;
 use bits::{byte, get32, get64};
 use fe_flood::split_alpha;
@@ -444,8 +444,8 @@ fn tested_function(s: &[u8]) -> Result<FilterFunction<'_>, Refusal>
     Err(Refusal::BadNumber)
 }
 
-// The length of a record's kind, or why there is none.
-fn convert_record(record: &[u8], out: &mut [u8]) -> Result<usize, Refusal>
+// The length of a record's kind, or why there is none: any bytes and any output.
+pub fn convert_function(record: &[u8], out: &mut [u8]) -> Result<usize, Refusal>
     ensures { ConvertedFunction «record».now out.old (answer_of result) out.new }
 {
     let function = tested_function(record)?;
@@ -455,11 +455,4 @@ fn convert_record(record: &[u8], out: &mut [u8]) -> Result<usize, Refusal>
     }
     function.put_kind(&mut Writer::new(out));
     Ok(size)
-}
-
-// Any bytes and any output.
-pub fn convert_function(record: &[u8], out: &mut [u8]) -> Answer
-    ensures { ConvertedFunction «record».now out.old result out.new }
-{
-    Answer::from(convert_record(record, out))
 }

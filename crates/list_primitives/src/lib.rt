@@ -66,8 +66,8 @@ fn put_merge(names: &Names, merge: Merge, out: &mut Writer)
     }
 }
 
-// The inputs of a kind: none, one, two, or a Vec with its count. That a Vec is of 512 nodes at most is a clause of these two functions, and no ghost field of `Inputs`:
-// `inputs_of` takes any kind, also one that no child has.
+// The inputs of a kind: none, one, two, or a Vec with its count. That a Vec is of 512 nodes at most is a clause of these two functions and of the two above, and
+// no ghost field of `Merge` or `Inputs`: `kind_of` makes a `Merge` of the nodes of any bytes, and `inputs_of` takes any kind, also one that no child has; both would have to ask for the bound.
 
 #[tactic(auto, using(crate::proofs::Merges::inputs_long), unfolding(bits::specs::Bytes::bytes16))]
 fn inputs_size(names: &Names, inputs: Inputs) -> u32

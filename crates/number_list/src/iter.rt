@@ -9,7 +9,8 @@ use decimal::window::Window;
 use decimal::word_value;
 use num::single;
 
-// What is left of a list: its numbers of four bytes each from index i on, or a text. A count and an index, and no Range of places: a Range is not Copy, as this type is.
+// What is left of a list: its numbers of four bytes each from index i on, or a text. A count and an index, and no Range: `numbers_left` says what is left by
+// the two numbers, with a Range it would say the same of its two ends, and only the test and the `+= 1` would go.
 #[derive(Clone, Copy)]
 pub enum Iter<'a> {
     Packed {

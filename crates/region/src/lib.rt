@@ -51,7 +51,8 @@ const HUNDRED_TWENTY_PERCENT: Length = Length {
     unit: LengthUnit::Percent,
 };
 
-// The filter element's four lengths.
+// The filter element's four lengths. One function with the length's name, and not four calls in `filter_rect`: so each length has a clause of its own (`filter_x_in` to
+// `filter_height_in`), which the rectangle's clause does not give where there is no rectangle; a function for each would be four twins.
 #[derive(Clone, Copy)]
 pub enum Side {
     X,

@@ -20,7 +20,8 @@ use svgtree::nodes::{node_count, pair_length, pair_offset, pair_place};
 use svgtree::run::NodeRun;
 use svgtree::{Found, SvgNode};
 
-// The header.
+// The header. A place's bound, here and below, is there only so that adding a constant to it does not overflow, as in `field_tests`: a type of places would need it again at each
+// addition.
 
 #[tactic(auto, unfolding(crate::specs::Layout::header_length_ok))]
 fn header_length_ok(s: &[u8], at: usize) -> bool

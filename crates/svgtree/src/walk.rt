@@ -9,7 +9,8 @@ use crate::SvgNode;
 use crate::run::NodeRun;
 use std::marker::Model;
 
-// The nodes of a run that are left, the first `passed` being behind. A clause sees them as a list.
+// The nodes of a run that are left, the first `passed` being behind. An iterator of its own, and not `(0..count).map(..)`: a clause sees it as the list of the nodes that are left, so the
+// loops' clauses name no Range and no closure.
 #[derive(Drop)]
 pub struct Nodes<'a> {
     run: NodeRun<'a>,

@@ -1,4 +1,5 @@
 // The calls of crate `zatongae` for C, under the same names and with the same clauses: the archive's symbols, which include/zatongae.h declares.
+// A crate of their own, since a crate is a library or a static library and the programs stand on `zatongae`; each clause is repeated, so that what C calls is promised where it is exported.
 #![tactic(auto)]
 
 ghost use Rattle.std.specs.Prelude.{◌≡◌};

@@ -11,7 +11,7 @@ use Rattle.functions.specs.Functions.{function_kind}
 use Rattle.functions.specs.Records.{function_record}
 use Rattle.functions.specs.Call.{ConvertedFunction}
 use Rattle.functions.proofs.Ends.{check_refused, no_room, given_call}
-use Rattle.functions.proofs.convert_record.Goals as goal
+use Rattle.functions.proofs.convert_function.Goals as goal
 
 pub returns-in_err-function : goal.returns-in_err-function
 returns-in_err-function c =
