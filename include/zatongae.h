@@ -5,7 +5,7 @@
  *     tools/archive
  *     cc -Iinclude examples/convert.c target/staticlib/libzatongae.a -o convert
  *
- * The archive is for x86-64 Linux. It needs memcpy, memmove and memset of the C library and nothing else.
+ * The archive is for x86-64 Linux. It needs memset of the C library and nothing else.
  *
  * What is said of a function's answer and output below is proved of it, for every input, except where it says "measured". The proof is about calls that
  * keep what a caller owes:

@@ -3,7 +3,7 @@ ghost use Rattle.std.specs.Prelude.{◌≡◌, ◌∷◌, [], ◌+◌, ◌≤◌
 ghost use Rattle.bits.specs.Bytes.{bytes_from, bytes16, bytes32, bytes_f};
 ghost use Rattle.bits.specs.Writer.{HasRoom, Writes};
 
-use crate::left_from;
+use crate::{copy_run, left_from};
 use std::num::f32_to_bits_with_nan;
 
 // A number as its bytes, of which there are always as many, the lowest first. Each type calls its own `to_le_bytes`, whose array has the type's size.
@@ -88,6 +88,16 @@ impl<'a> Writer<'a> {
         self.at = end;
     }
 
+    // The same, of a length that only the call knows: not by `put_bytes`, whose copy is then a call of `memmove`.
+    pub fn put_run(&mut self, bytes: &[u8])
+        requires { HasRoom self.old (length bytes.now) }
+        ensures { Writes self.old (length bytes.now) bytes.now self.new }
+    {
+        let end = self.at + bytes.len();
+        copy_run(bytes, &mut self.out[self.at..end]);
+        self.at = end;
+    }
+
     pub fn put<T: ToBytes>(&mut self, v: T)
         requires { HasRoom self.old T.size }
         ensures { Writes self.old T.size (T.bytes v) self.new }
@@ -103,11 +113,11 @@ impl<'a> Writer<'a> {
         let start = from as usize;
         let end = start + usize::from(n);
         if end <= s.len() {
-            self.put_bytes(&s[start..end]);
+            self.put_run(&s[start..end]);
             return;
         }
         let left = left_from(s, start);
-        self.put_bytes(left);
+        self.put_run(left);
         self.put_zeros(usize::from(n) - left.len());
     }
 

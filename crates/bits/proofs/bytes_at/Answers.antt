@@ -1,12 +1,11 @@
--- The first N bytes of what is left from the place on, where there are as many. Assumes nothing.
-use Prim.Native.Nat.{◌-◌, ◌≤◌}
-use mathlib.Core.Path.{sym, ◌∙◌}
-use lib.ListN.{length, length-drop}
-use Rattle.bits.proofs.Runs.{bytes_from_left}
+-- N bytes that all lie in the list are a part of it. Assumes nothing.
+use Rattle.std.proofs.Common.{◌≡◌, ◌+◌, ◌-◌, ◌≤◌, sym, arith, length}
+use Rattle.bits.proofs.Runs.{bytes_from_part}
 use Rattle.bits.proofs.bytes_at.Goals as goal
 
-pub returns-in-Some : goal.returns-in-Some
-returns-in-Some g c =
-    let whole = rw (c.in-Some.is, c.left_from.ensures) at c.first_chunk.ensures.cases in
-    let enough : g.row.N ≤ length c.args.s.now - c.args.at = rw length-drop at whole.enough in
-    whole.same ∙ sym (bytes_from_left c.args.s.now c.args.at g.row.N enough)
+pub returns-then-at-s : goal.returns-then-at-s
+returns-then-at-s g c =
+    let a = c.args in
+    let n : a.at + g.row.N - a.at ≡ g.row.N = omega arith in
+    let within : a.at + g.row.N ≤ length a.s.now = omega (arith, c.if-s.true, c.if-at-s.true) in
+    rw (c.copy_from_slice.ensures.after, n) (sym (bytes_from_part a.s.now a.at g.row.N within))

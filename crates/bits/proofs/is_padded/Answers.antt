@@ -1,9 +1,10 @@
--- The text's length of a longer run. Assumes nothing.
-use native.Mathlib.Omega.{arith}
-use Rattle.bits.proofs.Runs.{take-bytes_from}
+-- The second text is padded to its length. Assumes nothing.
+use Rattle.std.proofs.Common.{◌≡◌, ℕ, ◌≤◌, arith, length, take, replicate, length-take-le}
 use Rattle.bits.proofs.is_padded.Goals as goal
 
 pub returns : goal.returns
 returns c =
-    let b = c.args.b in
-    rw (c.padded.ensures, c.from.ensures, take-bytes_from c.args.s.now b.at b.len 255 (omega arith)) at c.text_is.ensures
+    let n = c.args.b.len in
+    let within : n ≤ 255 = omega arith in
+    let long : length {A = ℕ} (take n (replicate 255 0)) ≡ n = length-take-le _ _ within in
+    rw (c.pad.ensures, c.from.ensures, long) at c.text_is.ensures

@@ -1,9 +1,11 @@
--- The word's length of a longer run. Assumes nothing.
-use Rattle.bits.proofs.Runs.{take-bytes_from}
+-- The run is padded to the word's length. Assumes nothing.
+use Rattle.std.proofs.Common.{◌≡◌, ℕ, length, take, replicate, length-take-le}
+use Rattle.std.proofs.lemmas.List.{length-replicate}
 use Rattle.bits.proofs.Sameness.{same_pointwise}
 use Rattle.bits.proofs.padded_is.Goals as goal
 
 pub returns : goal.returns
 returns c =
-    let a = c.args in
-    rw (c.padded.ensures, take-bytes_from a.s.now a.from _ 255 c.requires.within, ← same_pointwise) at c.eq.ensures
+    let w = c.args.w.now in
+    let long : length {A = ℕ} (take (length w) (replicate 255 0)) ≡ length w = length-take-le _ _ c.requires.within in
+    rw (c.pad.ensures, long, ← same_pointwise) at c.eq.ensures

@@ -8,4 +8,4 @@ use Rattle.results.proofs.put_made.Goals as goal
 pub returns : goal.returns
 unfolding bytes16
 returns c =
-    rw (text_made c.args.k, ← c.digits_of-digits.ensures.0) (c.put.ensures then (c.put_bytes.ensures then c.put_bytes-2.ensures) counted omega arith)
+    rw (text_made c.args.k, ← c.digits_of-digits.ensures.0) (c.put.ensures then (c.put_bytes.ensures then c.put_run.ensures) counted omega arith)

@@ -13,7 +13,7 @@ returns-then-end-s c =
     let a = c.args in
     let n : a.from + c.from.result - a.from ≡ a.n = omega (arith, c.from.ensures) in
     let run = bytes_from_part a.s.now a.from a.n (omega arith) in
-    rw (n, ← run, length-bytes_from) at c.put_bytes.ensures
+    rw (n, ← run, length-bytes_from) at c.put_run.ensures
 
 pub returns : goal.returns
 returns c =
@@ -21,4 +21,4 @@ returns c =
     let left = c.left_from-left.result.now in
     let fits : length left ≤ a.n = simp (c.left_from-left.ensures, length-drop) (omega arith) in
     let run = bytes_from_rest a.s.now a.from a.n left c.left_from-left.ensures fits in
-    rw (← run, drop-replicate, ← c.from-2.ensures) (c.put_bytes-2.ensures then c.put_zeros.ensures counted omega arith)
+    rw (← run, drop-replicate, ← c.from-2.ensures) (c.put_run-2.ensures then c.put_zeros.ensures counted omega arith)
