@@ -1,5 +1,7 @@
 // Attribute names in use, as the id of an attribute: the place in the source's `AId`, counted from 0. Constants, and no enum: a sheet may have any id,
 // and its readers take any, so an enum would be a narrower type of theirs.
+ghost use Rattle.std.specs.Prelude.{◌≡◌, get_or};
+ghost use Rattle.names.specs.InUse.{attributes_in_use};
 
 pub const AMPLITUDE: u16 = 1;
 
@@ -176,3 +178,11 @@ pub const IN_USE: [u16; 57] = [
     Z,
     COUNT,
 ];
+
+// The i-th of the constants above, 0 past the last: what ties each of them to the number of the same name in specs/.
+#[tactic(auto, using(crate::specs::InUse::attributes_agree))]
+pub fn in_use(i: usize) -> u16
+    ensures { result ≡ get_or attributes_in_use i 0 }
+{
+    IN_USE.get(i).copied().unwrap_or(0)
+}

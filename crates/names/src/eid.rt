@@ -1,6 +1,8 @@
 // Element names in use, as the tag byte of a node: 1 + the place in the source's `EId`, counted from 0. Tag 0 is a node without a name.
 // Constants, and no enum: `tag_name` promises the byte as it stands, also in a sheet that was not checked, which may have any byte there. An `Option<EId>` would
 // say less: the bytes that name nothing would all be one value, and with them the bytes that a checked sheet can't have.
+ghost use Rattle.std.specs.Prelude.{◌≡◌, get_or};
+ghost use Rattle.names.specs.InUse.{elements_in_use};
 
 pub const FE_BLEND: u8 = 6;
 
@@ -81,3 +83,11 @@ pub const IN_USE: [u8; 25] = [
     FE_TURBULENCE,
     COUNT,
 ];
+
+// The i-th of the constants above, 0 past the last: what ties each of them to the number of the same name in specs/.
+#[tactic(auto, using(crate::specs::InUse::elements_agree))]
+pub fn in_use(i: usize) -> u8
+    ensures { result ≡ get_or elements_in_use i 0 }
+{
+    IN_USE.get(i).copied().unwrap_or(0)
+}
