@@ -1,16 +1,19 @@
 // A list of numbers as it is typed: walked word by word, its numbers, and whether it is refused. And a list of either kind, four bytes a number or typed.
 #![tactic(auto)]
 
-ghost use Rattle.std.specs.Prelude.{◌≡◌, [], ℕ, List, ◌≤◌, length};
+ghost use Rattle.std.specs.Prelude.{◌≡◌, [], ℕ, List, ◌≤◌, length, get_or};
 ghost use Rattle.bits.specs.Bytes.{bytes_from};
 ghost use Rattle.decimal.specs.Windows.{seen};
+ghost use Rattle.num.specs.Constants.{plus_zero};
 ghost use Rattle.number_list.specs.Text.{is_space, in_word, parts};
 ghost use Rattle.number_list.specs.Outcome.{text_outcome, words_in, typed_numbers};
 ghost use Rattle.number_list.specs.Lists.{numbers_from, numbers_is};
 ghost use Rattle.number_list.specs.Means.{token_is, TokenWithin, word_and_rest, WordWithin, outcome_check, check_from, end_check, comma_step, word_step, text_step_is, TextStepWithin};
 
+use bits::get32;
 use decimal::window::Window;
-use decimal::{TextFault, check_word};
+use decimal::{TextFault, check_word, word_value};
+use num::single;
 use sheet_fields::size;
 
 pub mod iter;
@@ -43,7 +46,7 @@ pub struct Walk<'a> {
 fn is_space(b: u8) -> bool
     ensures { result ≡ is_space b }
 {
-    matches!(b, b' ' | b'\t' | b'\n' | b'\r')
+    b == b' ' || b == b'\t' || b == b'\n' || b == b'\r' // in this order one test of bits; a pattern is three comparisons
 }
 
 #[tactic(auto, unfolding(crate::specs::Text::in_word))]
@@ -97,6 +100,21 @@ fn count_items(mut text: Window<'_>) -> u16
         n += 1;
     }
     n
+}
+
+// The number with i others before it, 0 past the last. The words before it are passed over, and only its own number is worked out.
+fn item_at(mut text: Window<'_>, i: u16) -> f32
+    ensures { result ≡ get_or (typed_numbers (seen text.entry)) i plus_zero }
+{
+    let mut left = i;
+    while let Some((word, rest)) = next_word(text) {
+        if left == 0 {
+            return word_value(word);
+        }
+        text = rest;
+        left -= 1;
+    }
+    0.0
 }
 
 // ---- whether a text is refused
@@ -224,5 +242,21 @@ pub fn numbers_len(s: &[u8], ns: Numbers) -> u16
     match ns {
         Numbers::Packed { count, .. } => count,
         Numbers::Typed { at, len } => count_items(Window::new(s, at, len)),
+    }
+}
+
+// The number at i, 0 past the list's end. One of four bytes is read at its place, where the iterator's `nth` would read those before it too.
+#[tactic(auto, using(crate::proofs::Lists::packed_at, crate::proofs::Lists::packed_past), unfolding(crate::specs::Lists::numbers_is))]
+pub fn number_at(s: &[u8], ns: Numbers, i: u16) -> f32
+    ensures { result ≡ get_or (numbers_is s.now ns) i plus_zero }
+{
+    match ns {
+        Numbers::Packed { at, count } => {
+            if count <= i {
+                return 0.0;
+            }
+            single(get32(s, at as usize + 4 * usize::from(i)))
+        }
+        Numbers::Typed { at, len } => item_at(Window::new(s, at, len), i),
     }
 }
