@@ -1,4 +1,4 @@
--- A list, by its count, its pairs and its records. Assumes nothing.
+-- A list, by its count, its pairs and its records; bytes that are too many for one are none. Assumes nothing.
 use Rattle.std.proofs.Common.{ℕ, suc, ◌+◌, ◌*◌, ◌-◌, ◌/◌, ◌<◌, ◌≤◌, ◌≡◌, ◌≢◌, refl, sym, ap, ◌∙◌, List, [], ◌∷◌, ◌++◌, Bool, true, false, cond, length, get_or, take, drop, le-leb, eq-eqb, ne_eqb, leb, eqb, ◌==◌, length-append, arith}
 use Rattle.std.proofs.lemmas.Bool.{lt-leb}
 use Rattle.std.proofs.lemmas.List.{take_rest}
@@ -7,12 +7,17 @@ use Rattle.bits.specs.Bytes.{bytes_from, le32}
 use Rattle.bits.proofs.Runs.{bytes_from_step}
 use Rattle.std.specs.List.{IsSplitAt}
 use Rattle.list_read.specs.Read.{Got, outside, got, and_then, only_if, read_byte, read16, read32, read_many}
-use Rattle.list_read.specs.Records.{read_record}
+use Rattle.list_read.specs.Records.{Form, ListRecord, read_record}
 use Rattle.list_read.specs.Forms.{form2, form_of}
 use Rattle.list_read.specs.Lists.{read_opening, read_records, read_counted, read_list}
 use Rattle.list_layout.specs.After.{is_got, record_in_layout, records_in_layout, counted_in_layout, in_layout}
 use Rattle.list_read.specs.declared.ListForm.{ListForm}
 use Rattle.list_read.specs.declared.ListForm.TheVariants.{One, Two}
+use Rattle.list_read.proofs.Forth.{Holds, AllBytes}
+use Rattle.list_read.proofs.Forms.{Lawful, lawful}
+use Rattle.list_read.proofs.Sizes.{few_small}
+use Rattle.list_read.proofs.ListBack.{length_list}
+use Rattle.list_read.proofs.ListForth.{ReadList, list_forth}
 use Rattle.list_layout.proofs.Walking.{run_is, run_outside}
 
 -- a number at a place, for crate `twins`
@@ -168,3 +173,18 @@ two_in (a ∷ b ∷ r) h i j =
     two_bytes a b r ∙ rw (eq-eqb a 255 i, eq-eqb b 255 j, behind)
 
 pub ruleset openings = (one_in, two_short, two_first, two_second, two_in)
+
+-- a list in the layout is not so long
+
+large : {R : Type 0} (f : Form R) (law : Lawful f) (s : List ℕ) → 100000000 < length s → (g : Got (List (ListRecord R))) → Holds (ReadList f law s) g → is_got g ≡ false
+large f law s long outside h = refl
+large f law s long (got rs r) h = absurd (omega (arith, ap length h.same, length_list f rs, few_small f law rs h.inside.few h.inside.each, h.inside.few, law.short))
+
+pub list_large : (form : ListForm) (s : List ℕ) → AllBytes s → 100000000 < length s → in_layout form s ≡ false
+unfolding in_layout
+list_large form s b h = large (form_of form) (lawful form) s h (read_list (form_of form) s) (list_forth (form_of form) (lawful form) s b)
+
+pub all_bytes : (s : List ℕ) → ((i : ℕ) → get_or s i 0 < 256) → AllBytes s
+unfolding AllBytes
+all_bytes [] h = tt
+all_bytes (x ∷ s) h = (h 0, all_bytes s (λ i. h (suc i)))

@@ -364,10 +364,14 @@ fn counted_in_layout(s: &[u8], before: usize, form: ListForm) -> bool
 }
 
 // Whether some bytes are a list in the layout. No such list has more than 84,535,300 bytes.
-#[tactic(auto, using(crate::proofs::Listing::openings))]
+#[tactic(auto, using(crate::proofs::Listing::openings, crate::proofs::Listing::list_large, crate::proofs::Listing::all_bytes))]
 pub fn in_layout(s: &[u8], form: ListForm) -> bool
     ensures { result ≡ in_layout form s.now }
 {
+    // No list has so many bytes, so nothing of them is walked.
+    if 100_000_000 < s.len() {
+        return false;
+    }
     match form {
         ListForm::One => counted_in_layout(s, 0, form),
         ListForm::Two => match s {
