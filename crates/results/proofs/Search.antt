@@ -7,12 +7,15 @@ use Prim.Native.Nat.{ℕ, zero, suc, ◌<◌}
 use native.Mathlib.Omega.{arith}
 use lib.ListN.{length, get_or}
 use Rattle.std.proofs.Math.Bool.{or-true}
+use Rattle.std.proofs.Math.Seq.{take-length}
 use Rattle.std.proofs.lemmas.Bool.{both_ways}
 use Rattle.bits.proofs.Sameness.{same_refl, same_eq}
 use Rattle.tree.specs.Input.{Name}
 use Rattle.naming.specs.Names.{w_result, member, Label, Own, Made, own_names}
 use Rattle.naming.specs.Agreement.{is_own}
 use Rattle.results.specs.Means.{entry_is, labels_is, NameTable, EarlierOwn}
+use Rattle.results.specs.declared.table.Names.{Names}
+use Rattle.results.specs.Table.{labels_in}
 use Rattle.results.proofs.Tables.{own_cons}
 
 own_is : (t : Name) (l : Label) → is_own t l ≡ true → l ≡ Own t
@@ -39,7 +42,7 @@ module _ (s : List ℕ) (t : Name) where
   there (x ∷ xs) (suc n) (suc j) h l e =
       own_cons t (entry_is s x) (labels_is s xs n) ∙ rw (there xs n j (omega arith) (omega arith) e) (or-true (is_own t (entry_is s x)))
 
--- The search for `result` and any bytes ds, by the contract of `taken`
+-- The search for `result` and any bytes ds, among the first n entries of a table
 
 module _ (s names : List ℕ) (n : ℕ) (ds : List ℕ) (r : Bool) (says : r ≡ member (w_result ++ ds) (own_names (labels_is s names n))) where
   pub taken_found : r ≡ true → EarlierOwn s names n (w_result ++ ds)
@@ -47,3 +50,15 @@ module _ (s names : List ℕ) (n : ℕ) (ds : List ℕ) (r : Bool) (says : r ≡
 
   pub found_taken : NameTable s names n → EarlierOwn s names n (w_result ++ ds) → r ≡ true
   found_taken t x = says ∙ there s (w_result ++ ds) names n x.place x.earlier (omega (arith, x.earlier, t.few, t.long)) x.own
+
+-- The same by the contract of `taken`: among all entries that it is given
+
+module _ (names : Names) (ds : List ℕ) (r : Bool) (says : r ≡ member (w_result ++ ds) (own_names (labels_in names))) where
+  of_all : r ≡ member (w_result ++ ds) (own_names (labels_is names.bytes.now names.entries.now (length names.entries.now)))
+  of_all = rw (take-length names.entries.now) says
+
+  pub taken_found_in : r ≡ true → EarlierOwn names.bytes.now names.entries.now (length names.entries.now) (w_result ++ ds)
+  taken_found_in = taken_found names.bytes.now names.entries.now (length names.entries.now) ds r of_all
+
+  pub found_taken_in : EarlierOwn names.bytes.now names.entries.now (length names.entries.now) (w_result ++ ds) → r ≡ true
+  found_taken_in x = of_all ∙ there names.bytes.now (w_result ++ ds) names.entries.now (length names.entries.now) x.place x.earlier x.earlier x.own
