@@ -50,6 +50,8 @@ fn kind_step(node: SvgNode<'_>, rect: Rect, made: Made) -> Result<Step, Refusal>
 }
 
 // The region decides before the kind. The kind is worked out first all the same: it is copied later, and need not be waited for then.
+// Out of line, and `step_of` inlined, so that a node that is no child costs no call.
+#[inline(never)]
 fn region_step(node: SvgNode<'_>, i: u16, frame: Frame) -> Result<Step, Refusal>
     requires { count_of node.bytes.now ≤ 512 }
     ensures { step_is node.entry.bytes.now result ≡ region_step frame (node_of node.entry) (children_of node.entry.bytes.now i) (region_of frame (node_of node.entry)) }
@@ -62,6 +64,7 @@ fn region_step(node: SvgNode<'_>, i: u16, frame: Frame) -> Result<Step, Refusal>
 }
 
 // A sheet and a frame stay two parameters: the frame may be another sheet's (`convert_children`), and no law joins them.
+#[inline(always)]
 #[tactic(auto, unfolding(crate::specs::Chain::step_of))]
 pub fn step_of(sheet: Sheet<'_>, i: u16, frame: Frame) -> Result<Step, Refusal>
     requires { i < count_of sheet.bytes.now }

@@ -112,6 +112,8 @@ pub fn region_in(units: Units, rect: Option<Rect>, bbox: Option<Rect>) -> Result
     }
 }
 
+// Out of line, so that its locals are not on the stack while children are converted.
+#[inline(never)]
 #[tactic(auto, unfolding(crate::specs::Region::filter_region_of))]
 pub fn filter_region(s: &[u8]) -> Result<Rect, Refusal>
     ensures { result ≡ filter_region_of (header_of s.now) }

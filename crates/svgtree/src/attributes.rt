@@ -19,6 +19,26 @@ pub struct Attribute {
     pub value: Found,
 }
 
+// An attribute whose head reaches past the sheet's end. Out of line, so that a search has only what nearly every attribute needs.
+#[cold]
+#[inline(never)]
+fn padded_attribute(s: &[u8], at: u32) -> Attribute
+    requires { at < 2 ^ 31 }
+    ensures { result ≡ read_at s.now at }
+{
+    let value = at + attribute::VALUE as u32;
+    let at = at as usize;
+    Attribute {
+        id: get16(s, at),
+        zero: byte(s, at + attribute::ZERO),
+        value: Found {
+            at: value,
+            len: get16(s, at + attribute::LENGTH),
+            kind: byte(s, at + attribute::KIND),
+        },
+    }
+}
+
 // One test serves for all six bytes of the head where they lie in the sheet. An array pattern over `bytes_at::<6>` proves as well, but a search then takes half as
 // many instructions again: there are two tests, and the two bytes of a number are read apart.
 #[tactic(auto, unfolding(bits::specs::Bytes::le16))]
@@ -28,25 +48,17 @@ fn attribute_at(s: &[u8], at: u32) -> Attribute
     ensures { result ≡ read_at s.now at }
 {
     let value = at + attribute::VALUE as u32;
-    let at = at as usize;
-    if value as usize <= s.len() {
-        return Attribute {
-            id: u16::from_le_bytes([s[at], s[at + 1]]),
-            zero: s[at + attribute::ZERO],
-            value: Found {
-                at: value,
-                len: u16::from_le_bytes([s[at + attribute::LENGTH], s[at + attribute::LENGTH + 1]]),
-                kind: s[at + attribute::KIND],
-            },
-        };
+    if s.len() < value as usize {
+        return padded_attribute(s, at);
     }
+    let at = at as usize;
     Attribute {
-        id: get16(s, at),
-        zero: byte(s, at + attribute::ZERO),
+        id: u16::from_le_bytes([s[at], s[at + 1]]),
+        zero: s[at + attribute::ZERO],
         value: Found {
             at: value,
-            len: get16(s, at + attribute::LENGTH),
-            kind: byte(s, at + attribute::KIND),
+            len: u16::from_le_bytes([s[at + attribute::LENGTH], s[at + attribute::LENGTH + 1]]),
+            kind: s[at + attribute::KIND],
         },
     }
 }
