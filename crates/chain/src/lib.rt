@@ -34,6 +34,7 @@ pub enum Step {
 }
 
 // A child in its subregion, whatever it made.
+#[inline(always)]
 fn kind_step(node: SvgNode<'_>, rect: Rect, made: Made) -> Result<Step, Refusal>
     requires { made_end made ≤ 512 }
     ensures { step_is node.entry.bytes.now result ≡ kind_step (node_of node.entry) rect (made_is node.entry.bytes.now made) }
@@ -50,8 +51,9 @@ fn kind_step(node: SvgNode<'_>, rect: Rect, made: Made) -> Result<Step, Refusal>
 }
 
 // The region decides before the kind. The kind is worked out first all the same: it is copied later, and need not be waited for then.
-// Out of line, and `step_of` inlined, so that a node that is no child costs no call.
-#[inline(never)]
+// A step is inlined where it is asked for, `kind_of` apart: a node that is no child costs no call, and a step has no frame of its own on the stack while `kind_of`
+// runs (docs/SPEED.md).
+#[inline(always)]
 fn region_step(node: SvgNode<'_>, i: u16, frame: Frame) -> Result<Step, Refusal>
     requires { count_of node.bytes.now ≤ 512 }
     ensures { step_is node.entry.bytes.now result ≡ region_step frame (node_of node.entry) (children_of node.entry.bytes.now i) (region_of frame (node_of node.entry)) }

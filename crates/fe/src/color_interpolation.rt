@@ -11,6 +11,8 @@ use tree::ColorInterpolation;
 // `auto` and every text that is no keyword are linearRGB.
 const KEYWORDS: [(&[u8], ColorInterpolation); 1] = [(b"sRGB", ColorInterpolation::SRGB)];
 
+// Inlined, as the step that asks for it is (`chain`).
+#[inline(always)]
 #[tactic(auto, unfolding(crate::specs::Keywords::keyword))]
 pub fn convert_color_interpolation(node: SvgNode<'_>) -> ColorInterpolation
     ensures { result ≡ color_interpolation_of (node_of node.entry) }

@@ -15,6 +15,7 @@ use svgtree::{SvgNode, Units};
 use units::LengthContext;
 
 // A child's x, y, width and height as numbers in primitiveUnits, where they are given.
+#[inline(always)]
 fn given_of(node: SvgNode<'_>, frame: Frame) -> Sides<Option<f32>>
     ensures { result ≡ given_in frame (node_of node.entry) }
 {
@@ -71,7 +72,8 @@ fn rect_within(region: Rect, given: Sides<Option<f32>>) -> Option<Rect>
     )
 }
 
-// The child's subregion: its numbers, in box units by the box, and their rectangle, if there is one.
+// The child's subregion: its numbers, in box units by the box, and their rectangle, if there is one. Inlined, as the step that asks for it is.
+#[inline(always)]
 #[tactic(auto, unfolding(crate::specs::Subregions::region_of, crate::specs::Subregions::user_space_region, crate::specs::Subregions::bbox_region))]
 pub fn resolve_primitive_region(node: SvgNode<'_>, frame: Frame) -> Option<Rect>
     ensures { result ≡ region_of frame (node_of node.entry) }
